@@ -1,0 +1,9 @@
+pub mod Sets
+pub mod Steps
+pub mod Laws
+pub mod Blocks
+pub mod Types
+pub mod Formed
+pub mod Fit
+pub mod Scan
+pub mod Numbers
