@@ -26,7 +26,8 @@ use Rattle.table.specs.Faults.{Passes, need, each, _>>=_}
 use Rattle.table.specs.Types.{keeps, field-keeps, set-fits, may-withhold, is-number, is-pristine, is-var, is-val, is-once, is-spec}
 use Rattle.table.specs.Records.{Op, New, Null, Int, Share, Own, Get, Take, Set, Add, Call, Fork, Return, Again, Join, Emit, operand, pick, op-of, asked-by, test-of, number-of, fits, form-of, slot-byte, decoded}
 use Rattle.table.specs.Program.{Function, Program, both, byte, struct-count, function-count, type-at, field-count, field-place, field-at, param-count, param-place, record-count, record-place, record-at, struct-place, struct-at, function-at, function-place, contents, struct-fits, function-fits, header, sections, structs, functions, field-types, function-types, entry, program}
-use Rattle.table.proofs.Each.{ok-then, need-true, each-ok, each-need, length-listing, getD-listing, listing-all}
+use Rattle.table.proofs.Listing.{length-listing, getD-listing, each-at}
+use Rattle.table.proofs.Each.{ok-then, need-true, each-need, listing-all}
 use Rattle.rules.specs.Rules.{no-field, no-function}
 use Rattle.rules.specs.Formed.{Sound, All-keep, Formed, Wide, Small, Shaped, Program-stands}
 
@@ -181,7 +182,7 @@ opened b p h =
         function-some = f1 .0;
         function-low = f1 .1;
         fields-few = λ s l.
-            let x = need-true (struct-fits b s) 5 (Byte (struct-place b s)) (ok-then _ _ tt (each-ok (struct-count b) each-struct (c1 .0) s l) .0) in
+            let x = need-true (struct-fits b s) 5 (Byte (struct-place b s)) (ok-then _ _ tt (each-at (struct-count b) each-struct (c1 .0) s l) .0) in
             leb-true (field-count b s) 8 (and-parts _ _ (and-parts _ _ x .0) .1);
         filled = λ n l.
             let x = each-need (function-count b) (function-fits b) 6 (λ i. Byte (function-place b i)) (a4 .0) n l in
@@ -189,11 +190,11 @@ opened b p h =
             let z = both-true 1 255 (record-count b n) (y .1) in
             (leb-true (param-count b n) 4 (and-parts _ _ (y .0) .0), z .0, z .1);
         field-fits = λ s l f m.
-            let x = each-ok (struct-count b) _ (a5 .0) s l in
-            and-parts _ _ (need-true _ _ _ (each-ok (field-count b s) _ x f m)) .1;
+            let x = each-at (struct-count b) _ (a5 .0) s l in
+            and-parts _ _ (need-true _ _ _ (each-at (field-count b s) _ x f m)) .1;
         types-fit = λ n l i m.
-            let x = each-ok (function-count b) _ (a6 .0) n l in
-            and-parts _ _ (need-true _ _ _ (each-ok (param-count b n + 1) _ x i m)) .1;
+            let x = each-at (function-count b) _ (a6 .0) n l in
+            and-parts _ _ (need-true _ _ _ (each-at (param-count b n + 1) _ x i m)) .1;
         first-bare = eqb-true _ _ (need-true _ _ _ (a7 .0));
       },
       same,

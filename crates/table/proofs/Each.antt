@@ -1,20 +1,18 @@
--- A chain of conditions that is not refused, and what is listed by places.
-use mathlib.Core.Path.{_≡_, refl, subst}
+-- Conditions that are not refused, and what holds of all that is listed by places.
+use mathlib.Core.Path.{_≡_, refl}
 use mathlib.Core.Bool.{Bool, true, false}
-use mathlib.Core.List.{[], map}
-use mathlib.Core.Logic.{inl, inr}
+use mathlib.Core.List.{[], _∷_, map}
 use Prim.Native.Nat.{ℕ, zero, suc, _+_, _<_}
 use native.Mathlib.Omega.{arith}
-use lib.ListN.{length, getD}
+use lib.ListN.{getD}
 use Rattle.std.specs.Iters.{counting}
-use Rattle.std.proofs.shelf.Tests.{cases-lt}
-use Rattle.std.proofs.shelf.Counted.{getD-map-counting, length-map-counting}
 use Rattle.std.specs.declared.result.Result.{Result}
 use Rattle.std.specs.declared.result.Result.the-variants.{Ok, Err}
 use Rattle.table.specs.declared.fault.Place.{Place}
 use Rattle.table.specs.declared.fault.Fault.{Fault}
 use Rattle.table.specs.Faults.{Passes, need, each, _>>=_}
 use Rattle.table.specs.Program.{listing}
+use Rattle.table.proofs.Listing.{each-at}
 
 -- a chain that ends well
 pub ok-then : {B : Type 0} (a : Passes) (k : Unit {0} → Result B Fault) (y : B) → (a >>= k) ≡ Ok y → (a ≡ Ok tt) × (k tt ≡ Ok y)
@@ -25,30 +23,15 @@ pub need-true : (b : Bool) (n : ℕ) (place : Place) → need b n place ≡ Ok t
 need-true true n place h = refl
 need-true false n place h = let z : _≡_ {A = ℕ} 0 1 = cc in absurd (omega arith)
 
--- what holds of each place below n + 1
-pub each-ok : (n : ℕ) (at : ℕ → Passes) → each n at ≡ Ok tt → (i : ℕ) → i < n → at i ≡ Ok tt
-each-ok zero at h i l = absurd (omega arith)
-each-ok (suc n) at h i l =
-    let a = ok-then (each n at) (λ _. at n) tt h in
-    elim (cases-lt i n) [
-      | inl x ↦ each-ok n at (a .0) i x
-      | inr x ↦ subst (λ j. at j ≡ Ok tt) (let e : n ≡ i = omega arith in e) (a .1)
-    ]
-
+-- a condition that passes at all places holds at each
 pub each-need : (n : ℕ) (at : ℕ → Bool) (number : ℕ) (place : ℕ → Place) → each n (λ i. need (at i) number (place i)) ≡ Ok tt → (i : ℕ) → i < n → at i ≡ true
-each-need n at number place h i l = need-true (at i) number (place i) (each-ok n (λ j. need (at j) number (place j)) h i l)
+each-need n at number place h i l = need-true (at i) number (place i) (each-at n (λ j. need (at j) number (place j)) h i l)
 
-pub length-listing : {X : Type 0} (n : ℕ) (at : ℕ → X) → length (listing n at) ≡ n
-length-listing n at = length-map-counting at 0 n
-
-pub getD-listing : {X : Type 0} (n : ℕ) (at : ℕ → X) (i : ℕ) (d : X) → i < n → getD (listing n at) i d ≡ at i
-getD-listing n at i d h = getD-map-counting at 0 n i i d h (omega arith)
-
--- what holds of each entry, and of what is read past the end
 pub counted-all : {X : Type 0} (P : X → Type 0) (d : X) (at : ℕ → X) (a n : ℕ) → ((i : ℕ) → i < a + n → P (at i)) → P d → (i : ℕ) → P (getD (map at (counting a n)) i d)
 counted-all P d at a zero h k i = k
 counted-all P d at a (suc n) h k zero = h a (omega arith)
 counted-all P d at a (suc n) h k (suc i) = counted-all P d at (a + 1) n (λ j l. h j (omega arith)) k i
 
+-- what holds of each entry, and of what is read past the end, holds of whatever is read
 pub listing-all : {X : Type 0} (P : X → Type 0) (d : X) (n : ℕ) (at : ℕ → X) → ((i : ℕ) → i < n → P (at i)) → P d → (i : ℕ) → P (getD (listing n at) i d)
 listing-all P d n at h k i = counted-all P d at 0 n (λ j l. h j (omega arith)) k i

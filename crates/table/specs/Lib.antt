@@ -2,3 +2,4 @@ pub mod Faults
 pub mod Types
 pub mod Records
 pub mod Program
+pub mod Reading

@@ -2,3 +2,4 @@
 pub mod fault;
 pub mod records;
 pub mod types;
+pub mod view;
