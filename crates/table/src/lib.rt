@@ -3,9 +3,12 @@ pub mod fault;
 mod keeping;
 mod opening;
 pub mod records;
+pub mod shown;
 pub mod types;
 pub mod view;
 
 pub use fault::Fault;
 pub use opening::open;
 pub use view::Table;
+pub use shown::FaultDisplay;
+pub use shown::LayerDisplay;
