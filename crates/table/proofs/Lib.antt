@@ -1,3 +1,4 @@
 pub mod Listing
 pub mod Reading
+pub mod Sets
 pub mod Each

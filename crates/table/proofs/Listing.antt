@@ -3,6 +3,7 @@ use mathlib.Core.Path.{_≡_, refl, sym, ap, _∙_}
 use mathlib.Core.Logic.{_⊎_, inl, inr}
 use mathlib.Core.List.{List}
 use Prim.Native.Nat.{ℕ, zero, suc, _+_, _≤_, _<_}
+use native.Mathlib.Numerals.{add-one}
 use native.Mathlib.Omega.{arith}
 use lib.ListN.{length, getD}
 use Rattle.std.specs.Finite.{nth}
@@ -13,7 +14,9 @@ use Rattle.std.specs.declared.result.Result.the-variants.{Ok, Err}
 use Rattle.std.proofs.shelf.Counted.{length-map-counting, getD-map-counting}
 use Rattle.std.proofs.shelf.Lists.{getD-past}
 use Rattle.std.proofs.shelf.Maps.{nth-getD, nth-past}
+use Rattle.std.proofs.shelf.Results.{err-from-errBy}
 use Rattle.std.proofs.shelf.Tests.{cases-lt}
+use Rattle.std.specs.Results.{ErrBy}
 use Rattle.table.specs.declared.fault.Fault.{Fault}
 use Rattle.table.specs.Faults.{Passes, each, _>>=_}
 use Rattle.table.specs.Program.{listing}
@@ -44,9 +47,15 @@ each-stops (suc n) at i e h p q =
     | inr g ↦ let s : i ≡ n = omega arith in rw (← s) (ap (λ r. r >>= λ _. at i) p ∙ q)
     ]
 
--- one place more passes
-pub each-more : (at : ℕ → Passes) (i : ℕ) → each i at ≡ Ok tt → at i ≡ Ok tt → each (suc i) at ≡ Ok tt
-each-more at i p q = ap (λ r. r >>= λ _. at i) p ∙ q
+-- The turn, the refusal and the end of a loop that goes through the places.
+pub each-next : (at : ℕ → Passes) (i : ℕ) (u : Unit {0}) → each i at ≡ Ok tt → Ok u ≡ at i → each (i + 1) at ≡ Ok tt
+each-next at i u p q = rw add-one (ap (λ r. r >>= λ _. at i) p ∙ sym q)
+
+pub each-refused : (n : ℕ) (at : ℕ → Passes) (i : ℕ) (e : Fault) (r : Passes) → i < n → each i at ≡ Ok tt → Err e ≡ at i → ErrBy r (λ d. d ≡ e) → r ≡ each n at
+each-refused n at i e r h p q b = let d = err-from-errBy r b in d .1 ∙ ap Err (d .2) ∙ sym (each-stops n at i e h p (sym q))
+
+pub each-ends : (n : ℕ) (at : ℕ → Passes) (i : ℕ) → i ≡ n → each i at ≡ Ok tt → Ok tt ≡ each n at
+each-ends n at i s p = sym (ap (λ m. each m at) (sym s) ∙ p)
 
 -- what passes at all places passes at each
 pub each-at : (n : ℕ) (at : ℕ → Passes) → each n at ≡ Ok tt → (i : ℕ) → i < n → at i ≡ Ok tt

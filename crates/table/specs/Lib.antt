@@ -3,3 +3,4 @@ pub mod Types
 pub mod Records
 pub mod Program
 pub mod Reading
+pub mod Shown

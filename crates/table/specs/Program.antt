@@ -127,53 +127,61 @@ module _ (b : List ℕ) where
       need (both 1 32 function-count) 3 (Byte 2) >>= λ _.
       need (eqb (byte 3) 0) 3 (Byte 3)
 
-  -- a section begins where what comes before it ends, and ends within the table, the last with it
+  -- a section begins where what comes before it ends: the pairs, or the section before
+  abbrev pub section-begin : ℕ → ℕ
+  section-begin i = cond (eqb i 0) (pair (function-count + 1)) (section-end (i - 1))
+
+  -- and ends within the table, the last with it
   abbrev pub section-fits : ℕ → Bool
-  section-fits zero = eqb (section-place 0) (pair (function-count + 1)) && leb (section-end 0) (length b)
-  section-fits (suc n) =
-      eqb (section-place (suc n)) (section-end n)
-      && cond (eqb (suc n) function-count) (eqb (section-end (suc n)) (length b)) (leb (section-end (suc n)) (length b))
+  section-fits i =
+      eqb (section-place i) (section-begin i)
+      && cond (eqb i function-count) (eqb (section-end i) (length b)) (leb (section-end i) (length b))
+
+  abbrev pub section-passes : ℕ → Passes
+  section-passes i = need (section-fits i) 4 (Byte (pair i))
 
   -- 4: the pairs
   abbrev pub sections : Passes
-  sections =
-      need (leb (pair (function-count + 1)) (length b)) 4 (Byte 4) >>= λ _.
-      each (function-count + 1) (λ i. need (section-fits i) 4 (Byte (pair i)))
+  sections = need (leb (pair (function-count + 1)) (length b)) 4 (Byte 4) >>= λ _. each (function-count + 1) section-passes
 
   -- a struct has at most 8 fields and is not cut short
   abbrev pub struct-fits : ℕ → Bool
   struct-fits s = ltb (struct-place s) (section-end 0) && leb (field-count s) 8 && leb (field-place s (field-count s)) (section-end 0)
 
+  abbrev pub mode-passes : ℕ → ℕ → Passes
+  mode-passes s f = need (leb (byte (field-place s f)) 3) 5 (Byte (field-place s f))
+
+  abbrev pub struct-passes : ℕ → Passes
+  struct-passes s = need (struct-fits s) 5 (Byte (struct-place s)) >>= λ _. each (field-count s) (mode-passes s)
+
   -- 5: the structs, and then a byte left over
   abbrev pub structs : Passes
-  structs =
-      each struct-count (λ s.
-        need (struct-fits s) 5 (Byte (struct-place s)) >>= λ _.
-        each (field-count s) (λ f. need (leb (byte (field-place s f)) 3) 5 (Byte (field-place s f)))) >>= λ _.
-      need (eqb (struct-place struct-count) (section-end 0)) 5 (Byte (struct-place struct-count))
+  structs = each struct-count struct-passes >>= λ _. need (eqb (struct-place struct-count) (section-end 0)) 5 (Byte (struct-place struct-count))
 
   -- a function has at most 4 parameters, and 1 to 255 records that fill its section
   abbrev pub function-fits : ℕ → Bool
   function-fits n = leb (param-count n) 4 && eqb (record-bytes n % 12) 0 && both 1 255 (record-count n)
 
+  abbrev pub function-passes : ℕ → Passes
+  function-passes n = need (function-fits n) 6 (Byte (function-place n))
+
   -- 6: the functions
   abbrev pub functions : Passes
-  functions = each function-count (λ n. need (function-fits n) 6 (Byte (function-place n)))
+  functions = each function-count function-passes
 
-  -- the type at a place keeps its rules
-  abbrev pub type-fits : ℕ → Bool
-  type-fits q = leb (byte q) 3 && keeps (contents .structs) (type-at q)
+  abbrev pub field-type-passes : ℕ → ℕ → Passes
+  field-type-passes s f = need (leb (byte (field-place s f + 1)) 3 && field-keeps (contents .structs) (field-at s f)) 7 (Byte (field-place s f + 1))
 
-  -- 7: the types of the fields, and then of the functions
+  -- 7: the types of the fields
   abbrev pub field-types : Passes
-  field-types =
-      each struct-count (λ s. each (field-count s) (λ f.
-        need (leb (byte (field-place s f + 1)) 3 && field-keeps (contents .structs) (field-at s f)) 7 (Byte (field-place s f + 1))))
+  field-types = each struct-count (λ s. each (field-count s) (field-type-passes s))
 
-  -- the parameters' places, and then the return type's
+  abbrev pub type-passes : ℕ → Passes
+  type-passes q = need (leb (byte q) 3 && keeps (contents .structs) (type-at q)) 7 (Byte q)
+
+  -- and then those of the functions: the parameters, and the return type behind them
   abbrev pub function-types : Passes
-  function-types =
-      each function-count (λ n. each (param-count n + 1) (λ i. need (type-fits (param-place n i)) 7 (Byte (param-place n i))))
+  function-types = each function-count (λ n. each (param-count n + 1) (λ i. type-passes (param-place n i)))
 
   -- 8: function 0 has no parameters
   abbrev pub entry : Passes

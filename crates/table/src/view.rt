@@ -261,7 +261,7 @@ impl<'t> Table<'t> {
     pub(crate) fn param_place(&self, n: usize, i: usize) -> usize
         requires { ⌜ n ≤ 255 ⌝ ∗ ⌜ i ≤ 255 ⌝ }
         ensures value { λ r. ⌜ r ≡ param-place (bytes-of (now (self .entry))) n i ⌝ }
-        ensures bound { λ r. ⌜ r < 2 ^ 17 ⌝ }
+        ensures bound { λ r. ⌜ r < 1000000 ⌝ }
     {
         self.function_place(n) + 1 + 4 * i
     }
@@ -269,7 +269,7 @@ impl<'t> Table<'t> {
     pub(crate) fn result_place(&self, n: usize) -> usize
         requires { ⌜ n ≤ 255 ⌝ }
         ensures value { λ r. ⌜ r ≡ result-place (bytes-of (now (self .entry))) n ⌝ }
-        ensures bound { λ r. ⌜ r < 2 ^ 17 ⌝ }
+        ensures bound { λ r. ⌜ r < 1000000 ⌝ }
     {
         self.param_place(n, self.param_count(n))
     }
@@ -294,7 +294,7 @@ impl<'t> Table<'t> {
     fn record_place(&self, n: usize, i: usize) -> usize
         requires { ⌜ n ≤ 255 ⌝ ∗ ⌜ i ≤ 131070 ⌝ }
         ensures value { λ r. ⌜ r ≡ record-place (bytes-of (now (self .entry))) n i ⌝ }
-        ensures bound { λ r. ⌜ r < 2 ^ 21 ⌝ }
+        ensures bound { λ r. ⌜ r < 2 ^ 22 ⌝ }
     {
         self.result_place(n) + 4 + 12 * i
     }
