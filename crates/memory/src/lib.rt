@@ -1,0 +1,4 @@
+// A memory of objects, by its meaning, and two memories that keep it.
+pub mod keeping;
+pub mod object;
+pub mod object_table;
