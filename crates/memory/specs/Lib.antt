@@ -1,2 +1,4 @@
+pub mod Images
 pub mod Model
 pub mod Tables
+pub mod Words
