@@ -3,4 +3,5 @@ pub mod byte_image;
 pub mod keeping;
 pub mod object;
 pub mod object_table;
+pub mod replay;
 mod words;
