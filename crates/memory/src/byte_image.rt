@@ -3,6 +3,7 @@ ghost use mathlib.Core.Path.{_≡_};
 ghost use Prim.Native.Nat.{_+_, _*_, _/_, _^_, _≤_, _<_};
 ghost use denote.Ref.{now};
 ghost use lib.ListN.{length};
+ghost use Rattle.std.specs.Vec.{made};
 ghost use Rattle.memory.specs.Images.{imaged, imagedBy, roomIn, heldIn, blanked, cellFrom, cellNumber, Layout};
 ghost use Rattle.memory.specs.Model.{makeOf, cellAt, withCell};
 ghost use Rattle.memory.specs.Words.{wordAt};
@@ -53,7 +54,8 @@ fn blank(bytes: &mut [u8], o: usize, kind: u8)
 impl<'a> ByteImage<'a> {
     // An empty image, with room for as many objects as fit into the bytes.
     pub fn new(bytes: &'a mut [u8]) -> Result<ByteImage<'a>, Fault>
-        ensures { λ r. ⌜ imagedBy r ≡ makeOf (length (now (bytes .entry)) / 36) ⌝ }
+        ensures value { λ r. ⌜ imagedBy r ≡ makeOf (length (now (bytes .entry)) / 36) ⌝ }
+        ensures untouched { λ r. ⌜ made r (λ s. now (s .bytes) ≡ now (bytes .entry)) ⌝ }
     {
         allowed(bytes.len() / 36)?;
         Ok(ByteImage { bytes, count: 0 })

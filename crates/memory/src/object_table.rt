@@ -3,6 +3,7 @@ ghost use mathlib.Core.Path.{_≡_};
 ghost use Prim.Native.Nat.{_≤_};
 ghost use denote.Ref.{now};
 ghost use lib.ListN.{length};
+ghost use Rattle.std.specs.Vec.{made};
 ghost use Rattle.memory.specs.Model.{makeOf};
 ghost use Rattle.memory.specs.Tables.{tabled, tabledBy, tableRoom, tableCount};
 use super::keeping::LIMIT;
@@ -23,7 +24,8 @@ pub struct ObjectTable<'a> {
 impl<'a> ObjectTable<'a> {
     // An empty table, with room for as many objects as the slice has records.
     pub fn new(objects: &'a mut [Object]) -> Result<ObjectTable<'a>, Fault>
-        ensures { λ r. ⌜ tabledBy r ≡ makeOf (length (now (objects .entry))) ⌝ }
+        ensures value { λ r. ⌜ tabledBy r ≡ makeOf (length (now (objects .entry))) ⌝ }
+        ensures untouched { λ r. ⌜ made r (λ t. now (t .objects) ≡ now (objects .entry)) ⌝ }
     {
         allowed(objects.len())?;
         Ok(ObjectTable { objects, count: 0 })
