@@ -9,7 +9,9 @@ ghost use Rattle.memory.specs.Model.{makeOf, cellAt, withCell};
 ghost use Rattle.memory.specs.Words.{wordAt};
 use super::keeping::LIMIT;
 use super::keeping::Memory;
+use super::keeping::WORD_END;
 use super::keeping::allowed;
+use super::keeping::present;
 use super::object::Cell;
 use super::words;
 use table::fault::Fault;
@@ -119,18 +121,18 @@ pub impl Memory for ByteImage<'_> as ImageMemory {
     }
 
     fn kind(&self, object: usize) -> Result<u8, Fault> {
-        demand(object < self.held(), 51, Place::Nothing)?;
+        present(object < self.held())?;
         Ok(self.number(36 * object).min(255) as u8)
     }
 
     fn load(&self, object: usize, cell: usize) -> Result<Cell, Fault> {
-        demand(object < self.held() && cell < 8, 51, Place::Nothing)?;
+        present(object < self.held() && cell < 8)?;
         Ok(self.cell(object, cell))
     }
 
     fn add(&mut self, kind: u8) -> Result<usize, Fault> {
         let number = self.held();
-        demand(kind <= 15, 51, Place::Nothing)?;
+        present(kind <= 15)?;
         demand(number < self.room(), 50, Place::Nothing)?;
         blank(self.bytes, number, kind);
         self.count = number + 1;
@@ -138,14 +140,13 @@ pub impl Memory for ByteImage<'_> as ImageMemory {
     }
 
     fn store(&mut self, object: usize, cell: usize, word: u32) -> Result<(), Fault> {
-        demand(object < self.held() && cell < 8 && word < 0x8000_0000, 51, Place::Nothing)?;
+        present(object < self.held() && cell < 8 && word < WORD_END)?;
         self.set_cell(object, cell, Cell { word, mark: false });
         Ok(())
     }
 
     fn exchange(&mut self, object: usize, cell: usize, expected: u32, word: u32, mark: bool) -> Result<bool, Fault> {
-        demand(object < self.held() && cell < 8, 51, Place::Nothing)?;
-        demand(expected < 0x8000_0000 && word < 0x8000_0000, 51, Place::Nothing)?;
+        present(object < self.held() && cell < 8 && expected < WORD_END && word < WORD_END)?;
         let old = self.cell(object, cell);
         let yes = !old.mark && old.word == expected;
         if yes {

@@ -1,6 +1,6 @@
 // What a memory keeps: what each call answers, and what it leaves.
 ghost use mathlib.Core.Path.{_≡_};
-ghost use Rattle.memory.specs.Model.{Store, Sized, roomOf, countOf, kindOf, addOf, afterAdd, loadOf, storeOf, afterStore, exchangeOf, afterExchange};
+ghost use Rattle.memory.specs.Model.{Store, Sized, there, roomOf, countOf, kindOf, addOf, afterAdd, loadOf, storeOf, afterStore, exchangeOf, afterExchange};
 use super::object::Cell;
 use table::fault::Fault;
 use table::fault::Place;
@@ -8,6 +8,16 @@ use table::fault::demand;
 
 // The most objects that a memory may have room for.
 pub const LIMIT: usize = 1024;
+
+// Words lie below this.
+pub const WORD_END: u32 = 0x8000_0000;
+
+// Refuses where an object, cell, struct or word that a call names is not there.
+pub fn present(holds: bool) -> Result<(), Fault>
+    ensures { λ r. ⌜ r ≡ there holds ⌝ }
+{
+    demand(holds, 51, Place::Nothing)
+}
 
 // Whether a memory may be made with this capacity: asked before any is made.
 pub fn allowed(capacity: usize) -> Result<(), Fault>

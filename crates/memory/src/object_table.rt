@@ -8,7 +8,9 @@ ghost use Rattle.memory.specs.Model.{makeOf};
 ghost use Rattle.memory.specs.Tables.{tabled, tabledBy, tableRoom, tableCount};
 use super::keeping::LIMIT;
 use super::keeping::Memory;
+use super::keeping::WORD_END;
 use super::keeping::allowed;
+use super::keeping::present;
 use super::object::Cell;
 use super::object::Object;
 use table::fault::Fault;
@@ -57,18 +59,18 @@ pub impl Memory for ObjectTable<'_> as TableMemory {
     }
 
     fn kind(&self, object: usize) -> Result<u8, Fault> {
-        demand(object < self.held(), 51, Place::Nothing)?;
+        present(object < self.held())?;
         Ok(self.objects[object].kind)
     }
 
     fn load(&self, object: usize, cell: usize) -> Result<Cell, Fault> {
-        demand(object < self.held() && cell < 8, 51, Place::Nothing)?;
+        present(object < self.held() && cell < 8)?;
         Ok(self.objects[object].cells[cell])
     }
 
     fn add(&mut self, kind: u8) -> Result<usize, Fault> {
         let number = self.held();
-        demand(kind <= 15, 51, Place::Nothing)?;
+        present(kind <= 15)?;
         demand(number < self.room(), 50, Place::Nothing)?;
         let zero = Cell {
             word: 0,
@@ -83,14 +85,13 @@ pub impl Memory for ObjectTable<'_> as TableMemory {
     }
 
     fn store(&mut self, object: usize, cell: usize, word: u32) -> Result<(), Fault> {
-        demand(object < self.held() && cell < 8 && word < 0x8000_0000, 51, Place::Nothing)?;
+        present(object < self.held() && cell < 8 && word < WORD_END)?;
         self.objects[object].cells[cell] = Cell { word, mark: false };
         Ok(())
     }
 
     fn exchange(&mut self, object: usize, cell: usize, expected: u32, word: u32, mark: bool) -> Result<bool, Fault> {
-        demand(object < self.held() && cell < 8, 51, Place::Nothing)?;
-        demand(expected < 0x8000_0000 && word < 0x8000_0000, 51, Place::Nothing)?;
+        present(object < self.held() && cell < 8 && expected < WORD_END && word < WORD_END)?;
         let old = self.objects[object].cells[cell];
         let yes = !old.mark && old.word == expected;
         if yes {

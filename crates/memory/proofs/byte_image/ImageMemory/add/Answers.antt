@@ -7,11 +7,11 @@ use Rattle.memory.specs.Model.{withObject, afterAdd}
 use Rattle.memory.proofs.Encoding.{length-image, image-grown, image-sized}
 use Rattle.memory.proofs.byte_image.ImageMemory.add.Needs as need
 
+pub returns-in-Break-present : need.returns-in-Break-present
+returns-in-Break-present c = search (needs, length-image)
+
 pub returns-in-Break-demand : need.returns-in-Break-demand
 returns-in-Break-demand c = search (needs, length-image)
-
-pub returns-in-Break-demand-2 : need.returns-in-Break-demand-2
-returns-in-Break-demand-2 c = search (needs, length-image)
 
 pub returns : need.returns
 returns c =
