@@ -18,3 +18,14 @@ pub mod Lift
 pub mod Calls
 pub mod Shapes
 pub mod Typed
+pub mod Images
+pub mod Chains
+pub mod Meaning
+pub mod Passing
+pub mod Ground
+pub mod Tells
+pub mod Poised
+pub mod Bindings
+pub mod Testing
+pub mod Calling
+pub mod Turns

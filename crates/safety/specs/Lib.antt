@@ -6,3 +6,8 @@ pub mod Frames
 pub mod Threads
 pub mod Calls
 pub mod Typed
+pub mod Checked
+pub mod Notes
+pub mod Owners
+pub mod Runs
+pub mod Safe
