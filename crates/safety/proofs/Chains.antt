@@ -1,16 +1,14 @@
 -- The frames of a thread: each stands before a record of the table, and each but the newest waits at a call of the next.
-use mathlib.Core.Path.{_≡_, refl, sym, ap, ap₂, subst, _∙_}
-use mathlib.Core.Bool.{Bool, true, false, cond, _&&_}
+use mathlib.Core.Path.{_≡_, sym, subst}
+use mathlib.Core.Bool.{true}
 use mathlib.Core.List.{List, [], _∷_, _++_}
-use Prim.Native.Nat.{ℕ, suc, zero, _<_, _≤_, _+_, _-_}
+use Prim.Native.Nat.{ℕ, suc, zero, _<_, _+_, _-_}
 use native.Mathlib.Omega.{arith}
-use lib.Dec.{ltb}
 use lib.ListN.{getD, set, length, take}
 use Rattle.std.proofs.shelf.Tests.{lt-ltb, and-from, cond-true}
-use Rattle.std.specs.declared.option.Option.{Option}
-use Rattle.std.specs.declared.option.Option.the-variants.{Some, None}
+use Rattle.std.specs.declared.option.Option.the-variants.{Some}
 use Rattle.table.specs.Program.{Program}
-use Rattle.table.specs.Records.{Op, Call}
+use Rattle.table.specs.Records.{Call}
 use Rattle.rules.specs.Rules.{callee, record-at}
 use Rattle.machine.specs.declared.threads.Frame.{Frame}
 use Rattle.machine.specs.World.{no-frame, in-table, op-at}

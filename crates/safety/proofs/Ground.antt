@@ -1,51 +1,40 @@
 -- What is kept from step to step, and what is known of a frame that is about to step: its record, its operands, its memory.
 use mathlib.Core.Path.{_≡_, refl, sym, ap, ap₂, subst, _∙_}
-use mathlib.Core.Bool.{Bool, true, false, cond, not, _&&_, _||_}
+use mathlib.Core.Bool.{Bool, true, false, cond}
 use mathlib.Core.List.{List, [], _∷_, _++_, map}
 use mathlib.Core.Logic.{_⊎_, inl, inr}
-use Prim.Native.Nat.{ℕ, suc, zero, _<_, _≤_, _+_, _-_}
+use Prim.Native.Nat.{ℕ, suc, zero, _<_, _+_, _-_}
 use native.Mathlib.Omega.{arith}
-use lib.Dec.{ltb, eqb}
+use lib.Dec.{ltb}
 use lib.ListN.{getD, set, length}
-use Rattle.std.proofs.shelf.Lists.{length-set, set-getD}
-use Rattle.std.proofs.shelf.Tests.{eqb-true, ltb-true, lt-ltb, and-parts, and-from, cond-true, cond-false}
+use Rattle.std.proofs.shelf.Tests.{lt-ltb}
 use Rattle.std.specs.declared.option.Option.{Option}
 use Rattle.std.specs.declared.option.Option.the-variants.{Some, None}
-use Rattle.table.specs.declared.types.Mode.{Mode}
 use Rattle.table.specs.declared.types.Kind.{Kind}
 use Rattle.table.specs.declared.types.Kind.the-variants.{Number, Alias, Owned, Pristine}
 use Rattle.table.specs.declared.types.Ty.{Ty}
 use Rattle.table.specs.declared.types.Field.{Field}
 use Rattle.table.specs.Program.{Program}
-use Rattle.table.specs.Types.{is-number, is-alias, is-owned, is-pristine}
-use Rattle.table.specs.Records.{Op}
-use Rattle.rules.specs.Rules.{Premise, first, callee, slot, free, no-field, flows, flows-by, declared}
-use Rattle.rules.specs.Rules as R
+use Rattle.table.specs.Types.{is-number, is-alias, is-pristine}
+use Rattle.rules.specs.Rules.{slot, no-field, declared}
 use Rattle.memory.specs.Model.{Store, countOf, objectAt, cellAt}
-use Rattle.memory.specs.declared.object.Object.{Object}
 use Rattle.memory.specs.declared.object.Cell.{Cell}
 use Rattle.machine.specs.declared.threads.Slot.{Slot}
 use Rattle.machine.specs.declared.threads.Slot.the-variants as V
 use Rattle.machine.specs.declared.threads.Frame.{Frame}
-use Rattle.machine.specs.World.{no-frame, Task, is-running}
-use Rattle.machine.specs.declared.threads.Status.{Status}
-use Rattle.machine.specs.declared.threads.Status.the-variants.{Running, Ended, Halted}
-use Rattle.machine.specs.Ways.{Change, newest, value, go, stopped}
-use Rattle.machine.specs.Steps.{Turn, Fails, Does, unless}
-use Rattle.machine.specs.Values.{is-empty, is-null, holds-number, is-reference, object-of, suits, value-of, given}
-use Rattle.machine.specs.Reading.{fields, field, field-type, cell, has-object, where-object, has-field, where-field, refers}
-use Rattle.safety.specs.Model.{Slots, Entry, here}
+use Rattle.machine.specs.World.{is-running}
+use Rattle.machine.specs.Ways.{go}
+use Rattle.machine.specs.Steps.{Turn, Fails, Does}
+use Rattle.machine.specs.Values.{is-empty, holds-number, is-reference, object-of, value-of}
+use Rattle.machine.specs.Reading.{fields, field, field-type, cell, has-object, where-object, has-field, where-field}
 use Rattle.safety.specs.Model as C
 use Rattle.safety.specs.Fields.{valOf}
 use Rattle.safety.specs.Step.{Mem, Sound}
-use Rattle.safety.specs.Threads.{frameAt, flat, advance}
-use Rattle.safety.specs.Kept.{Fits, Kept}
-use Rattle.safety.specs.Typed.{Slotted, Active, Typed, fresh}
-use Rattle.safety.specs.Checked.{by-kind, core, core-field, structs-of, Notes, current, stack, stacks, types, scopes, Fine, Checked}
-use Rattle.safety.proofs.Keeps.{kept-sound}
-use Rattle.safety.proofs.Typed.{in-scope, typed-keeps}
+use Rattle.safety.specs.Threads.{flat}
+use Rattle.safety.specs.Kept.{Fits}
+use Rattle.safety.specs.Checked.{by-kind, core, core-field, structs-of, Notes, current, stacks, scopes}
 use Rattle.safety.proofs.Images.{mem, Whole}
-use Rattle.safety.proofs.Chains.{set-all, Placed, Chain, chain-at, chain-moved}
+use Rattle.safety.proofs.Chains.{Chain}
 use Rattle.safety.proofs.Meaning.{never, value-core}
 
 -- lists

@@ -1,8 +1,8 @@
 -- The memory of the machine as the core of soundness sees it.
-use mathlib.Core.Path.{_≡_, refl, sym, ap, ap₂, subst, _∙_, fun-ext}
-use mathlib.Core.Bool.{Bool, true, false}
+use mathlib.Core.Path.{_≡_, refl, sym, ap, ap₂, _∙_, fun-ext}
+use mathlib.Core.Bool.{Bool, false}
 use mathlib.Core.List.{List, [], _∷_, _++_}
-use Prim.Native.Nat.{ℕ, suc, zero, _<_, _≤_, _+_}
+use Prim.Native.Nat.{ℕ, suc, zero, _<_, _+_}
 use native.Mathlib.Omega.{arith}
 use native.Mathlib.Decide.{ℕ-discrete}
 use lib.ListN.{getD, set, length, replicate}
@@ -13,6 +13,7 @@ use Rattle.memory.specs.Model.{Store, plain, countOf, objectAt, cellAt, withObj
 use Rattle.safety.specs.Model.{choose, place?}
 use Rattle.safety.specs.Model as C
 use Rattle.safety.specs.Step as St
+use Rattle.safety.specs.Kept.{void}
 use Rattle.safety.specs.Step.{Mem, poke}
 
 abbrev pub mem : Store → Mem
@@ -148,3 +149,11 @@ whole-stored m p f n k low h o l = go (ℕ-discrete o p)
       ∙ length-set (objectAt m p .cells) f (record { word = n; mark = k }) ∙ h p low
     go (no d) = ap (λ (q : Object). length (q .cells)) (getD-set-other (m .objects) p o new-object (record { kind = 0; cells = [] }) d)
       ∙ h o (let e = length-set (m .objects) p new-object in omega arith)
+
+-- no object
+pub mem-empty : (m : Store) → countOf m ≡ 0 → mem m ≡ void
+mem-empty m e = go (m .objects) e
+  where
+    go : (os : List Object) → length os ≡ 0 → mem (record { capacity = m .capacity; objects = os }) ≡ void
+    go [] h = refl
+    go (o ∷ os) h = absurd (omega arith)

@@ -29,3 +29,7 @@ pub mod Bindings
 pub mod Testing
 pub mod Calling
 pub mod Turns
+pub mod Counts
+pub mod Promise
+pub mod Notes
+pub mod Tables

@@ -1,37 +1,31 @@
 -- Types, flow and sets of the rules, as the core of soundness has them.
-use mathlib.Core.Path.{_≡_, refl, sym, ap, ap₂, subst, _∙_}
-use mathlib.Core.Bool.{Bool, true, false, cond, not, _&&_, _||_}
-use mathlib.Core.List.{List, [], _∷_}
+use mathlib.Core.Path.{_≡_, refl, sym, ap, subst, _∙_}
+use mathlib.Core.Bool.{Bool, true, false, cond, _&&_, _||_}
+use mathlib.Core.List.{List, []}
 use mathlib.Core.Logic.{_⊎_, inl, inr}
-use Prim.Native.Nat.{ℕ, zero, suc, _-_, _<_, _≤_, _/_, _%_, _^_}
+use Prim.Native.Nat.{ℕ, _-_, _<_, _≤_}
 use native.Mathlib.Omega.{arith}
-use lib.Dec.{leb, ltb, eqb}
+use lib.Dec.{ltb, eqb}
 use lib.ListN.{length, getD}
 use Rattle.std.proofs.shelf.Lists.{getD-past}
-use Rattle.std.proofs.shelf.Tests.{eqb-true, eqb-false, eq-eqb, ltb-true, lt-ltb, and-parts, and-from, or-cases, cases-lt, cases-eq}
-use Rattle.std.specs.declared.option.Option.{Option}
-use Rattle.std.specs.declared.option.Option.the-variants.{Some, None}
-use Rattle.table.specs.declared.types.Mode.{Mode}
-use Rattle.table.specs.declared.types.Mode.the-variants.{Var, Val, Once, Spec}
+use Rattle.std.proofs.shelf.Tests.{eqb-true, eq-eqb, and-parts, cases-lt, cases-eq}
 use Rattle.table.specs.declared.types.Kind.{Kind}
 use Rattle.table.specs.declared.types.Kind.the-variants.{Number, Alias, Owned, Pristine}
 use Rattle.table.specs.declared.types.Ty.{Ty}
 use Rattle.table.specs.declared.types.Field.{Field}
-use Rattle.table.specs.Program.{Program}
-use Rattle.table.specs.Types.{is-number, is-alias, is-owned, is-pristine, is-var, is-val, is-once, is-spec, may-withhold, set-fits, keeps}
-use Rattle.rules.specs.Rules.{has, with, without, part, flows, flows-by, no-field, withholding, Premise, first}
+use Rattle.table.specs.Types.{is-number, is-owned, is-pristine, may-withhold, set-fits, keeps}
+use Rattle.rules.specs.Rules.{has, with, without, part, flows, flows-by, no-field}
 use Rattle.rules.proofs.Fit.{fits-bit, never-withheld}
-use Rattle.rules.proofs.Sets.{has-none, has-half, has-first, part-within, without-within, without-lost, without-kept}
+use Rattle.rules.proofs.Sets.{has-none, part-within, without-within, without-lost, without-kept}
 use Rattle.machine.specs.Values.{reference-of, left, value-of}
 use Rattle.machine.specs.declared.threads.Slot.the-variants as V
 use Rattle.machine.specs.declared.threads.Slot.{Slot}
 use Rattle.safety.specs.Model.{Has}
 use Rattle.safety.specs.Model as C
-use Rattle.safety.specs.Fields.{Within, With, Without, Alone, Flows, tyOf, lent, valOf, spent}
+use Rattle.safety.specs.Fields.{Within, With, Without, Flows, tyOf, valOf, spent}
 use Rattle.safety.specs.Frames.{kept}
-use Rattle.safety.specs.Step.{shared}
 use Rattle.safety.specs.Checked.{by-kind, core, field-by-kind, core-field}
-use Rattle.safety.proofs.Mask.{with-or, alone}
+use Rattle.safety.proofs.Mask.{with-or}
 
 pub never : {X : Type 0} → _≡_ {A = Bool} false true → X
 never e = let z : _≡_ {A = ℕ} 0 1 = cc in absurd (omega arith)

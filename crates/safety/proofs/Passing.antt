@@ -1,8 +1,8 @@
 -- Arguments that go to parameters, and the frames of threads after a call, a fork and a return: lists alone.
-use mathlib.Core.Path.{_≡_, refl, sym, ap, ap₂, subst, _∙_}
-use mathlib.Core.Bool.{Bool, true, false, not, _&&_}
-use mathlib.Core.List.{List, [], _∷_, _++_, map}
-use mathlib.Core.Logic.{_⊎_, inl, inr}
+use mathlib.Core.Path.{_≡_, refl, sym, ap, _∙_}
+use mathlib.Core.Bool.{true}
+use mathlib.Core.List.{List, [], _∷_, _++_}
+use mathlib.Core.Logic.{inl}
 use Prim.Native.Nat.{ℕ, suc, zero, _<_, _≤_, _+_, _-_}
 use native.Mathlib.Omega.{arith}
 use native.Mathlib.Decide.{ℕ-discrete}
@@ -17,7 +17,6 @@ use Rattle.machine.specs.declared.threads.Frame.{Frame}
 use Rattle.machine.specs.World.{no-frame}
 use Rattle.machine.specs.Values.{left, leaving, passing}
 use Rattle.safety.specs.Model as C
-use Rattle.safety.specs.Frames.{kept}
 use Rattle.safety.specs.Threads.{frameAt, Suffix, FallsSc}
 use Rattle.safety.specs.Calls.{spendVals, givenVals, paramScope, IsFrame}
 use Rattle.safety.specs.Typed.{NotIn}
