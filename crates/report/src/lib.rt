@@ -4,10 +4,12 @@ ghost use Rattle.std.specs.declared.option.Option.the-variants.{Some};
 ghost use Rattle.report.specs.Reports.{reported, report-text};
 use std::fmt;
 use table::Fault;
+use table::FaultDebug;
 use table::FaultDisplay;
+use table::FaultPartialEq;
 use table::open;
 
-#[derive(Clone, Copy, Drop)]
+#[derive(Clone, Copy, Debug, PartialEq, Eq, Drop)]
 pub enum Report {
     // the table is refused
     Refused(Fault),
@@ -34,7 +36,27 @@ pub impl fmt::Display for Report as ReportDisplay {
     fn fmt<W: fmt::Write>(&self, f: &mut fmt::Formatter<W>) -> fmt::Result {
         match self {
             Report::Refused(fault) => write!(f, "{fault}"),
-            Report::Counts { structs, functions } => write!(f, "structs {structs} functions {functions}"),
+            Report::Counts { structs, functions } => write!(
+                f,
+                "structs {structs} functions {functions}"
+            ),
         }
+    }
+}
+
+#[cfg(test)]
+mod tests {
+    use super::*;
+    use std::test::*;
+    use table::Place;
+
+    // One byte more than a table may have.
+    #[test]
+    fn too_long(rt: LibcRuntime) -> Result<(), Fail> {
+        let bytes = vec![in rt.alloc(); 1u8; 65_536]?;
+        check_eq(
+            rehearse(&bytes),
+            Report::Refused(Fault::new(1, Place::Byte(0))),
+        )
     }
 }

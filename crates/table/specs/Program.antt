@@ -109,10 +109,10 @@ module _ (b : List ℕ) where
 
   abbrev pub function-at : ℕ → Function
   function-at n = record {
-      params = listing (param-count n) (λ i. type-at (param-place n i));
-      result = type-at (result-place n);
-      records = listing (record-count n) (record-at n);
-    }
+    params = listing (param-count n) (λ i. type-at (param-place n i));
+    result = type-at (result-place n);
+    records = listing (record-count n) (record-at n);
+  }
 
   -- what the bytes hold, if nothing is refused
   abbrev pub contents : Program

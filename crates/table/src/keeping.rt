@@ -66,5 +66,8 @@ pub fn field_keeps_rules(table: &Table, field: Field) -> bool
 {
     let kind = field.ty.kind;
     let plain = field.mode.is_var() || field.mode.is_val();
-    keeps_rules(table, field.ty) && !kind.is_pristine() && field.ty.withheld == 0 && (plain || !kind.is_number())
+    keeps_rules(table, field.ty)
+        && !kind.is_pristine()
+        && field.ty.withheld == 0
+        && (plain || !kind.is_number())
 }

@@ -8,7 +8,11 @@ pub mod types;
 pub mod view;
 
 pub use fault::Fault;
+pub use fault::FaultDebug;
+pub use fault::FaultPartialEq;
+pub use fault::Layer;
+pub use fault::Place;
 pub use opening::open;
-pub use view::Table;
 pub use shown::FaultDisplay;
 pub use shown::LayerDisplay;
+pub use view::Table;

@@ -5,7 +5,7 @@ ghost use lib.ListN.{length, drop};
 ghost use Rattle.table.specs.Records.{number-of, form-of, fits, zeros, op-of, test-of, decoded, meantBy};
 
 // A test: its yes block comes next, its no block behind that.
-#[derive(Clone, Copy, Debug, PartialEq, Eq, Drop)]
+#[derive(Clone, Copy, Drop)]
 pub enum Test {
     // 16
     Nil { x: u8 },
@@ -76,24 +76,112 @@ pub struct Form {
 }
 
 // No number is below its limit, so no record fits it.
-const NO_OP: Form = Form { binds: false, operands: 0, limit: 0 };
-const INT: Form = Form { binds: true, operands: 0, limit: 0x8000_0000 };
-const JOIN: Form = Form { binds: false, operands: 0, limit: 0x1_0000_0000 };
-const BINDS_1: Form = Form { binds: true, operands: 1, limit: 1 };
-const BINDS_2: Form = Form { binds: true, operands: 2, limit: 1 };
-const BINDS_3: Form = Form { binds: true, operands: 3, limit: 1 };
-const BINDS_6: Form = Form { binds: true, operands: 6, limit: 1 };
-const SILENT_1: Form = Form { binds: false, operands: 1, limit: 1 };
-const SILENT_6: Form = Form { binds: false, operands: 6, limit: 1 };
-const ASKS_1: Form = Form { binds: false, operands: 1, limit: 0x1_0000_0000 };
-const ASKS_2: Form = Form { binds: false, operands: 2, limit: 0x1_0000_0000 };
-const ASKS_3: Form = Form { binds: false, operands: 3, limit: 0x1_0000_0000 };
-const ASKS_4: Form = Form { binds: false, operands: 4, limit: 0x1_0000_0000 };
+const NO_OP: Form = Form {
+    binds: false,
+    operands: 0,
+    limit: 0,
+};
+
+const INT: Form = Form {
+    binds: true,
+    operands: 0,
+    limit: 0x8000_0000,
+};
+
+const JOIN: Form = Form {
+    binds: false,
+    operands: 0,
+    limit: 0x1_0000_0000,
+};
+
+const BINDS_1: Form = Form {
+    binds: true,
+    operands: 1,
+    limit: 1,
+};
+
+const BINDS_2: Form = Form {
+    binds: true,
+    operands: 2,
+    limit: 1,
+};
+
+const BINDS_3: Form = Form {
+    binds: true,
+    operands: 3,
+    limit: 1,
+};
+
+const BINDS_6: Form = Form {
+    binds: true,
+    operands: 6,
+    limit: 1,
+};
+
+const SILENT_1: Form = Form {
+    binds: false,
+    operands: 1,
+    limit: 1,
+};
+
+const SILENT_6: Form = Form {
+    binds: false,
+    operands: 6,
+    limit: 1,
+};
+
+const ASKS_1: Form = Form {
+    binds: false,
+    operands: 1,
+    limit: 0x1_0000_0000,
+};
+
+const ASKS_2: Form = Form {
+    binds: false,
+    operands: 2,
+    limit: 0x1_0000_0000,
+};
+
+const ASKS_3: Form = Form {
+    binds: false,
+    operands: 3,
+    limit: 0x1_0000_0000,
+};
+
+const ASKS_4: Form = Form {
+    binds: false,
+    operands: 4,
+    limit: 0x1_0000_0000,
+};
 
 // The forms of the ops, from 0 on.
 const FORMS: [Form; 26] = [
-    NO_OP, BINDS_1, BINDS_1, INT, BINDS_1, BINDS_1, BINDS_2, BINDS_2, BINDS_3, BINDS_2, BINDS_6, SILENT_6, SILENT_1, SILENT_6, JOIN, SILENT_1, ASKS_1, ASKS_2, ASKS_2,
-    ASKS_2, ASKS_4, ASKS_4, ASKS_4, ASKS_3, ASKS_3, ASKS_2,
+    NO_OP,
+    BINDS_1,
+    BINDS_1,
+    INT,
+    BINDS_1,
+    BINDS_1,
+    BINDS_2,
+    BINDS_2,
+    BINDS_3,
+    BINDS_2,
+    BINDS_6,
+    SILENT_6,
+    SILENT_1,
+    SILENT_6,
+    JOIN,
+    SILENT_1,
+    ASKS_1,
+    ASKS_2,
+    ASKS_2,
+    ASKS_2,
+    ASKS_4,
+    ASKS_4,
+    ASKS_4,
+    ASKS_3,
+    ASKS_3,
+    ASKS_2,
 ];
 
 impl Form {
@@ -108,7 +196,9 @@ impl Form {
     fn fits(self, slot: u8, operands: &[u8], number: u32) -> bool
         ensures { λ r. ⌜ r ≡ fits self slot (now (operands .entry)) number ⌝ }
     {
-        (number as u64) < self.limit && (self.binds || slot == 0) && zeros_from(operands, self.operands)
+        (number as u64) < self.limit
+            && (self.binds || slot == 0)
+            && zeros_from(operands, self.operands)
     }
 }
 
@@ -165,8 +255,15 @@ fn decode_op<'t>(bytes: &'t [u8], number: u32) -> Option<Record<'t>>
         7 => Some(Record::Take { z, x, f: *a }),
         8 => Some(Record::Set { z, x, f: *a, y: *b }),
         9 => Some(Record::Add { z, x, y: *a }),
-        10 => Some(Record::Call { z, n: x, args: &bytes[3..8] }),
-        11 => Some(Record::Fork { n: x, args: &bytes[3..8] }),
+        10 => Some(Record::Call {
+            z,
+            n: x,
+            args: &bytes[3..8],
+        }),
+        11 => Some(Record::Fork {
+            n: x,
+            args: &bytes[3..8],
+        }),
         12 => Some(Record::Return { x }),
         13 => Some(Record::Again { args: &bytes[2..8] }),
         14 => Some(Record::Join { number }),
@@ -189,9 +286,24 @@ fn decode_test(bytes: &[u8]) -> Option<Test>
         17 => Some(Test::Same { x, y: a }),
         18 => Some(Test::Equal { x, y: a }),
         19 => Some(Test::Less { x, y: a }),
-        20 => Some(Test::Link { x, f: a, y: b, g: c }),
-        21 => Some(Test::Unlink { x, f: a, y: b, g: c }),
-        22 => Some(Test::Swap { x, f: a, y: b, w: c }),
+        20 => Some(Test::Link {
+            x,
+            f: a,
+            y: b,
+            g: c,
+        }),
+        21 => Some(Test::Unlink {
+            x,
+            f: a,
+            y: b,
+            g: c,
+        }),
+        22 => Some(Test::Swap {
+            x,
+            f: a,
+            y: b,
+            w: c,
+        }),
         23 => Some(Test::Try { x, f: a, y: b }),
         24 => Some(Test::Fix { x, f: a, y: b }),
         25 => Some(Test::Stable { x, f: a }),

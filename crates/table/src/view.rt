@@ -18,7 +18,7 @@ pub struct Table<'t> {
 }
 
 // Why there is no record at a place.
-#[derive(Clone, Copy, Debug, PartialEq, Eq, Drop)]
+#[derive(Clone, Copy, Drop)]
 pub enum Lacking {
     // the function, or its record, is not there
     Missing = 0,
@@ -141,7 +141,11 @@ impl<'t> Table<'t> {
     pub(crate) fn byte(&self, i: usize) -> u8
         ensures { λ r. ⌜ r ≡ byte (bytes-of (now (self .entry))) i ⌝ }
     {
-        if i < self.bytes.len() { self.bytes[i] } else { 0 }
+        if i < self.bytes.len() {
+            self.bytes[i]
+        } else {
+            0
+        }
     }
 
     fn count(&self, i: usize) -> usize
@@ -193,7 +197,12 @@ impl<'t> Table<'t> {
         requires { ⌜ place < 2 ^ 32 ⌝ }
         ensures { λ r. ⌜ r ≡ type-at (bytes-of (now (self .entry))) place ⌝ }
     {
-        let [kind, strukt, barred, withheld] = [self.byte(place), self.byte(place + 1), self.byte(place + 2), self.byte(place + 3)];
+        let [kind, strukt, barred, withheld] = [
+            self.byte(place),
+            self.byte(place + 1),
+            self.byte(place + 2),
+            self.byte(place + 3),
+        ];
         Ty {
             kind: Kind::of(kind),
             strukt,
@@ -280,7 +289,8 @@ impl<'t> Table<'t> {
         ensures value { λ r. ⌜ r ≡ record-bytes (bytes-of (now (self .entry))) n ⌝ }
         ensures bound { λ r. ⌜ r ≤ 131070 ⌝ }
     {
-        self.section_end(n + 1).saturating_sub(self.result_place(n) + 4)
+        self.section_end(n + 1)
+            .saturating_sub(self.result_place(n) + 4)
     }
 
     pub(crate) fn record_count(&self, n: usize) -> usize

@@ -10,12 +10,12 @@ use Rattle.table.proofs.keeping.set_fits.Needs as need
 pub returns-then-not-first-fits : need.returns-then-not-first-fits
 returns-then-not-first-fits c =
     set-refuses (c .args .kind) (field-count (bytes-of (c .args .table .now)) (c .args .s)) (field-at (bytes-of (c .args .table .now)) (c .args .s)) (c .loop-f .f) (c .loop-f .rest) (c .field-at .result) (set-fits (c .args .kind) (struct-at (bytes-of (c .args .table .now)) (c .args .s)) (c .args .set)) (c .first-fits .result)
-      (omega arith) (c .field-at .ensures) (c .loop-f .inv) (c .first-fits .ensures) (c .if-not-first-fits .taken)
+    (omega arith) (c .field-at .ensures) (c .loop-f .inv) (c .first-fits .ensures) (c .if-not-first-fits .taken)
 
 pub loop-f-again : need.loop-f-again
 loop-f-again c =
     set-passes (c .args .kind) (field-count (bytes-of (c .args .table .now)) (c .args .s)) (field-at (bytes-of (c .args .table .now)) (c .args .s)) (c .loop-f .f) (c .loop-f .rest) (c .field-at .result) (set-fits (c .args .kind) (struct-at (bytes-of (c .args .table .now)) (c .args .s)) (c .args .set)) (c .first-fits .result)
-      (omega arith) (c .field-at .ensures) (c .loop-f .inv) (c .first-fits .ensures) (c .if-not-first-fits .left)
+    (omega arith) (c .field-at .ensures) (c .loop-f .inv) (c .first-fits .ensures) (c .if-not-first-fits .left)
 
 pub returns : need.returns
 returns c =
