@@ -11,7 +11,7 @@ use Rattle.table.specs.declared.records.Test.{Test}
 use Rattle.table.specs.declared.records.Test.the-variants.{Nil, Same, Equal, Less, Link, Unlink, Swap, Try, Fix, Stable}
 use Rattle.table.specs.declared.records.Record.{Record}
 use Rattle.table.specs.declared.records.Record.the-variants as coded
-use Rattle.table.specs.declared.records.Form.{Form}
+use Rattle.table.specs.declared.forms.Form.{Form}
 
 -- z is the slot that a record binds, s a struct, n a function; a call holds its operand bytes behind n, and `again` all six
 pub data Op : Type 0 where

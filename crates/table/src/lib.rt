@@ -1,5 +1,7 @@
 // The bytes of a table, and what they hold. Nothing above this crate reads a byte of a table.
+mod decoding;
 pub mod fault;
+mod forms;
 mod keeping;
 mod opening;
 pub mod records;
@@ -7,6 +9,7 @@ pub mod shown;
 pub mod types;
 pub mod view;
 
+pub use decoding::decode;
 pub use fault::Fault;
 pub use fault::FaultDebug;
 pub use fault::FaultPartialEq;

@@ -7,7 +7,7 @@ use lib.ListN.{length, getD, drop}
 use Rattle.std.proofs.shelf.Lists.{at-drop-more, at-drop-all}
 use Rattle.std.proofs.shelf.Ways.{tells}
 use Rattle.table.specs.Records.{zeros}
-use Rattle.table.proofs.records.zeros_from.Needs as need
+use Rattle.table.proofs.forms.zeros_from.Needs as need
 
 pub returns-then-bytes-i-ne0 : need.returns-then-bytes-i-ne0
 returns-then-bytes-i-ne0 c =
