@@ -1,14 +1,18 @@
 use super::asking::Question;
 use super::asking::ask;
 use memory::byte_image::ByteImage;
+use memory::byte_image::ImageMemory;
 use memory::keeping::LIMIT;
 use memory::keeping::Memory;
 use memory::keeping::allowed;
 use memory::object::Cell;
 use memory::object::Object;
 use memory::object_table::ObjectTable;
+use memory::object_table::TableMemory;
 use std::test::*;
 use table::fault::Fault;
+use table::fault::FaultDebug;
+use table::fault::FaultPartialEq;
 use table::fault::Place;
 
 const WORD: u32 = 0x7fff_ffff;
