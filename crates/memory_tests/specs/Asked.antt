@@ -1,8 +1,8 @@
 -- What a memory answers to a question, and what is left.
-use mathlib.Core.Bool.{Bool, true, false}
+use mathlib.Core.Bool.{Bool, false}
 use Prim.Native.Nat.{ℕ}
 use Rattle.std.specs.declared.result.Result.{Result}
-use Rattle.std.specs.declared.result.Result.the-variants.{Ok, Err}
+use Rattle.std.specs.declared.result.Result.the-variants.{Ok}
 use Rattle.table.specs.declared.fault.Fault.{Fault}
 use Rattle.table.specs.Faults.{_>>=_}
 use Rattle.memory.specs.Model.{Store, countOf, kindOf, loadOf, addOf, afterAdd, storeOf, afterStore, exchangeOf, afterExchange}

@@ -9,6 +9,8 @@ use memory::object::Cell;
 use memory::object::Object;
 use memory::object_table::ObjectTable;
 use memory::object_table::TableMemory;
+use memory::replay::Call;
+use memory::replay::replay;
 use std::test::*;
 use table::fault::Fault;
 use table::fault::FaultDebug;
@@ -51,7 +53,10 @@ const QUESTIONS: [Question; 30] = [
 ];
 
 fn object() -> Object {
-    let stale = Cell { word: 9, mark: true };
+    let stale = Cell {
+        word: 9,
+        mark: true,
+    };
     Object {
         kind: 7,
         cells: [stale; 8],
@@ -68,6 +73,41 @@ fn memories_agree() -> Result<(), Fail> {
         check_eq(ask(&mut table, question), ask(&mut image, question))?;
     }
     Ok(())
+}
+
+#[test]
+fn replays_agree() -> Result<(), Fail> {
+    let calls = [
+        Call::Add { kind: 3 },
+        Call::Add { kind: 16 },
+        Call::Store {
+            object: 0,
+            cell: 1,
+            word: 5,
+        },
+        Call::Exchange {
+            object: 0,
+            cell: 1,
+            expected: 5,
+            word: 6,
+            mark: true,
+        },
+        Call::Exchange {
+            object: 1,
+            cell: 1,
+            expected: 5,
+            word: 6,
+            mark: true,
+        },
+    ];
+    let mut objects = [object(); 2];
+    let mut bytes = [255u8; 80];
+    let mut table = ObjectTable::new(&mut objects)?;
+    let mut image = ByteImage::new(&mut bytes)?;
+    check_eq(replay(&mut table, &calls), 3)?;
+    check_eq(replay(&mut image, &calls), 3)?;
+    check_eq(ask(&mut table, Question::Load(0, 1)), Ok((6, true)))?;
+    check_eq(ask(&mut image, Question::Load(0, 1)), Ok((6, true)))
 }
 
 #[test]
@@ -92,7 +132,10 @@ fn bytes_of_an_object() -> Result<(), Fail> {
     check_eq(image.exchange(0, 2, 300, 7, false), Ok(false))?;
     let shown = image.bytes();
     check(shown.len() >= 37)?;
-    check_eq(&shown[0..16], &[3, 0, 0, 0, 0, 0, 0, 0, 10, 0, 0, 0, 0x59, 2, 0, 0])?;
+    check_eq(
+        &shown[0..16],
+        &[3, 0, 0, 0, 0, 0, 0, 0, 10, 0, 0, 0, 0x59, 2, 0, 0],
+    )?;
     check_eq(&shown[16..36], &[0; 20])?;
     check_eq(shown[36], 255)
 }
