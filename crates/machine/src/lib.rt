@@ -1,3 +1,8 @@
 // A machine that runs a table: threads of frames over a memory of objects.
 pub mod clashing;
+mod fields;
+mod frames;
+mod plain;
+mod reading;
 pub mod threads;
+mod values;
