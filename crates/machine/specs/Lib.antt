@@ -8,3 +8,4 @@ pub mod Clashes
 pub mod Alone
 pub mod Numbers
 pub mod Seeing
+pub mod Trying

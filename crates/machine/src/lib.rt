@@ -4,5 +4,6 @@ mod fields;
 mod frames;
 mod plain;
 mod reading;
+mod tests;
 pub mod threads;
 mod values;
