@@ -4,6 +4,8 @@ pub mod Laws
 pub mod Blocks
 pub mod Types
 pub mod Formed
+pub mod Seen
 pub mod Fit
 pub mod Scan
 pub mod Numbers
+mod Loops

@@ -1,4 +1,6 @@
 pub mod Rules
+pub mod Seen
+pub mod Scoped
 pub mod Scopes
 pub mod Formed
 pub mod Laws
