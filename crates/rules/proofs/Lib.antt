@@ -9,3 +9,4 @@ pub mod Fit
 pub mod Scan
 pub mod Numbers
 mod Loops
+pub mod Judging

@@ -6,5 +6,6 @@ pub mod Formed
 pub mod Laws
 pub mod Blocks
 pub mod Scan
+pub mod Parts
 pub mod Examples
 pub mod Trials

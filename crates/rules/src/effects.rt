@@ -61,7 +61,7 @@ fn with_set(ty: Ty, withheld: u8) -> Ty
     }
 }
 
-impl<'s> Scope<'s> {
+impl<'t, 's> Scope<'t, 's> {
     // The type of x once y was set in its field f: what flows there is no longer withheld, a tentative alias is.
     fn once_set(self, x: u8, f: u8, y: u8) -> Ty
         requires { ⌜ f < 8 ⌝ }

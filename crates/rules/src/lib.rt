@@ -1,7 +1,9 @@
 // The rules of a table's records, and the check that they are kept.
 pub mod body;
-pub mod premises;
-pub mod scope;
+mod checking;
 pub mod effects;
 pub mod flow;
+pub mod parts;
+pub mod premises;
+pub mod scope;
 pub mod theorems;

@@ -19,7 +19,7 @@ use table::records::Record;
 use table::records::Test;
 use table::records::zeros_from;
 
-impl<'s> Scope<'s> {
+impl<'t, 's> Scope<'t, 's> {
     // The number that a record is refused with, but for its place in the blocks.
     pub fn refusal(self, said: Record<'_>) -> Option<u8>
         ensures { λ r. ⌜ r ≡ refused (self .entry) (meant (said .entry)) ⌝ }
@@ -188,7 +188,7 @@ impl<'s> Scope<'s> {
 }
 
 // The rules of the tests.
-impl<'s> Scope<'s> {
+impl<'t, 's> Scope<'t, 's> {
     fn test_refusal(self, test: Test) -> Option<u8>
         ensures { λ r. ⌜ r ≡ refused-test (self .entry) test ⌝ }
     {

@@ -15,8 +15,8 @@ use table::types::Mode;
 use table::types::Ty;
 
 #[derive(Clone, Copy)]
-pub struct Scope<'s> {
-    pub body: Body<'s>,
+pub struct Scope<'t, 's> {
+    pub body: Body<'t>,
     pub types: &'s [Ty],
 }
 
@@ -34,7 +34,7 @@ pub fn first_failing(premises: &[(u8, bool)]) -> Option<u8>
 }
 
 // What rules ask of slots. A slot that is not in scope reads as a number.
-impl<'s> Scope<'s> {
+impl<'t, 's> Scope<'t, 's> {
     pub fn in_scope(self, x: u8) -> bool
         ensures { λ r. ⌜ r ≡ ltb x (length (types-in (self .entry))) ⌝ }
     {
