@@ -10,3 +10,4 @@ pub mod Scan
 pub mod Numbers
 mod Loops
 pub mod Judging
+pub mod Checked

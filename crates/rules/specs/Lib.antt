@@ -7,5 +7,6 @@ pub mod Laws
 pub mod Blocks
 pub mod Scan
 pub mod Parts
+pub mod Checked
 pub mod Examples
 pub mod Trials

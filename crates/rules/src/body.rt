@@ -1,6 +1,7 @@
 // The body of a function, and what a check reads of the table around it.
 ghost use mathlib.Core.Path.{_≡_};
 ghost use mathlib.Core.List.{[]};
+ghost use Prim.Native.Nat.{_≤_};
 ghost use lib.Dec.{ltb};
 ghost use lib.ListN.{length, getD};
 ghost use Rattle.table.specs.Records.{meantBy};
@@ -66,7 +67,8 @@ impl<'t> Body<'t> {
     }
 
     pub fn params(self, n: usize) -> usize
-        ensures { λ r. ⌜ r ≡ length (callee (program-in (self .entry)) n .params) ⌝ }
+        ensures value { λ r. ⌜ r ≡ length (callee (program-in (self .entry)) n .params) ⌝ }
+        ensures few { λ r. ⌜ r ≤ 4 ⌝ }
     {
         self.table.params(n).min(4)
     }

@@ -5,11 +5,11 @@ ghost use lib.ListN.{length, take, set};
 ghost use Rattle.std.specs.declared.option.Option.the-variants.{None};
 ghost use Rattle.table.specs.Records.{meant};
 ghost use Rattle.rules.specs.Rules.{bound, yes-types};
-ghost use Rattle.rules.specs.Scopes.{grown};
-ghost use Rattle.rules.specs.Seen.{program-in, function-in};
-ghost use Rattle.rules.specs.Scan.{scan};
-ghost use Rattle.rules.specs.declared.parts.Sort.the-variants.{InYes};
-ghost use Rattle.rules.specs.Parts.{span, scanned, tested, judged-at, said-by, refused-in, test-refused-in};
+ghost use Rattle.table.specs.Reading.{program-of};
+ghost use Rattle.rules.specs.Scopes.{grown, read, start};
+ghost use Rattle.rules.specs.Seen.{seen, program-in, function-in};
+ghost use Rattle.rules.specs.Checked.{checked, Opens, Says};
+ghost use Rattle.rules.specs.Parts.{scanned, tested, judged-at, said-by, refused-in, test-refused-in};
 use super::body::Body;
 use super::parts::Part;
 use super::parts::Sort;
@@ -20,6 +20,7 @@ use table::fault::Place;
 use table::records::Record;
 use table::records::Test;
 use table::types::Ty;
+use table::view::Table;
 
 // Holds the types while a yes block is checked, with the type that a slot goes back to.
 struct Guard<'a> {
@@ -156,5 +157,51 @@ fn check_yes(body: Body<'_>, types: &mut [Ty], depth: usize, part: Part, test: T
     let guard = Guard { types, slot, was };
     guard.types[slot] = change.ty;
     check_block(body, guard.types, depth, part)?;
+    Ok(())
+}
+
+// Brings a function's parameters into scope, and answers how many there are.
+fn enter(body: Body<'_>, types: &mut [Ty]) -> usize
+    requires { ⌜ 16 ≤ length (now types) ⌝ }
+    ensures types { λ r. ⌜ take r (now (types .exit)) ≡ function-in (body .entry) .params ⌝ }
+    ensures depth { λ r. ⌜ r ≤ 4 ⌝ }
+{
+    let count = body.params(body.function);
+    for i in 0..count {
+        types[i] = body.param(body.function, i);
+    }
+    count
+}
+
+// Checks the body of a function. It is level 1, and seven levels may lie below it.
+fn check_body(body: Body<'_>, scratch: &mut [Ty]) -> Result<(), Fault>
+    requires { ⌜ 16 ≤ length (now scratch) ⌝ }
+    ensures { λ r. ⌜ r ≡ read (program-in (body .entry)) (function-in (body .entry)) (body .entry .function) 0 (start (program-in (body .entry)) (function-in (body .entry))) (function-in (body .entry) .records) ⌝ }
+{
+    let depth = enter(body, scratch);
+    let whole = Part {
+        place: 0,
+        end: body.records(),
+        levels: 7,
+        sort: Sort::InBody,
+    };
+    check_block(body, scratch, depth, whole)
+}
+
+// Checks all records of a table by the rules, in scratch for 128 types.
+pub fn check(table: &Table<'_>, scratch: &mut [Ty]) -> Result<(), Fault>
+    ensures value { λ r. ⌜ r ≡ checked (length (now (scratch .entry))) (seen (now (table .entry))) ⌝ }
+    ensures opened { λ r. ⌜ (Opens (program-of (now (table .entry))) → Says (program-of (now (table .entry))) (length (now (scratch .entry))) r) ⌝ }
+{
+    if scratch.len() < 128 {
+        return Err(Fault::new(30, Place::Nothing));
+    }
+    for function in 0..table.functions() {
+        let body = Body {
+            table: *table,
+            function,
+        };
+        check_body(body, scratch)?;
+    }
     Ok(())
 }

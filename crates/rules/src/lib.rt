@@ -1,6 +1,6 @@
 // The rules of a table's records, and the check that they are kept.
 pub mod body;
-mod checking;
+pub mod checking;
 pub mod effects;
 pub mod flow;
 pub mod parts;
