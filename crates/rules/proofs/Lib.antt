@@ -11,3 +11,4 @@ pub mod Numbers
 mod Loops
 pub mod Judging
 pub mod Checked
+pub mod Walk

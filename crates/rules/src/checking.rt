@@ -67,7 +67,7 @@ fn judge<'t>(body: Body<'t>, types: &[Ty], part: Part) -> Result<Record<'t>, Fau
 }
 
 // Brings what an accepted record binds into scope, and answers how many types are in scope then.
-fn bind(body: Body<'_>, types: &mut [Ty], depth: usize, said: Record<'_>) -> usize
+pub(crate) fn bind(body: Body<'_>, types: &mut [Ty], depth: usize, said: Record<'_>) -> usize
     requires { ⌜ refused-in body (take depth (now types)) (meant said) ≡ None ⌝ ∗ ⌜ depth ≤ 16 ⌝ ∗ ⌜ 16 ≤ length (now types) ⌝ }
     ensures types { λ r. ⌜ take r (now (types .exit)) ≡ grown (take depth (now (types .entry))) (bound (program-in (body .entry)) (function-in (body .entry)) (take depth (now (types .entry))) (meant (said .entry))) ⌝ }
     ensures depth { λ r. ⌜ depth ≤ r ⌝ ∗ ⌜ r ≤ 16 ⌝ }
@@ -161,7 +161,7 @@ fn check_yes(body: Body<'_>, types: &mut [Ty], depth: usize, part: Part, test: T
 }
 
 // Brings a function's parameters into scope, and answers how many there are.
-fn enter(body: Body<'_>, types: &mut [Ty]) -> usize
+pub(crate) fn enter(body: Body<'_>, types: &mut [Ty]) -> usize
     requires { ⌜ 16 ≤ length (now types) ⌝ }
     ensures types { λ r. ⌜ take r (now (types .exit)) ≡ function-in (body .entry) .params ⌝ }
     ensures depth { λ r. ⌜ r ≤ 4 ⌝ }

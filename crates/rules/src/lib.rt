@@ -7,3 +7,7 @@ pub mod parts;
 pub mod premises;
 pub mod scope;
 pub mod theorems;
+pub mod walking;
+
+pub use checking::check;
+pub use walking::scope_before;
