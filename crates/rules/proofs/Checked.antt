@@ -1,17 +1,15 @@
 -- The check of all functions gives the verdict, and what the verdict says.
-use mathlib.Core.Path.{_≡_, refl, sym, ap, _∙_, subst, subst⁻¹}
-use mathlib.Core.Bool.{Bool, true, false, cond}
+use mathlib.Core.Path.{_≡_, refl, sym, ap, _∙_}
 use mathlib.Core.List.{List, [], _∷_, map}
-use mathlib.Core.Logic.{_⊎_, inl, inr}
-use Prim.Native.Nat.{ℕ, zero, suc, _+_, _-_, _≤_, _<_}
+use mathlib.Core.Logic.{inl, inr}
+use Prim.Native.Nat.{ℕ, suc, _+_, _-_, _≤_, _<_}
 use native.Mathlib.Numerals.{add-one}
 use native.Mathlib.Omega.{arith}
 use lib.Dec.{ltb}
 use lib.ListN.{length, getD, take, drop, set}
-use Rattle.std.proofs.shelf.Lists.{take-all, take-more, take-more-set, drop-more, drop-all, at-drop-all}
-use Rattle.std.proofs.shelf.Tests.{ltb-true, lt-ltb, le-ltb, cases-lt, cond-true, cond-false}
+use Rattle.std.proofs.shelf.Lists.{take-all, take-more, take-more-set, drop-more, at-drop-all}
+use Rattle.std.proofs.shelf.Tests.{lt-ltb, le-ltb, cases-lt, cond-true, cond-false}
 use Rattle.std.specs.declared.option.Option.{Option}
-use Rattle.std.specs.declared.result.Result.{Result}
 use Rattle.std.specs.declared.result.Result.the-variants.{Ok, Err}
 use Rattle.table.specs.declared.fault.Fault.{Fault}
 use Rattle.table.specs.declared.fault.Place.the-variants.{Nothing}
@@ -20,15 +18,13 @@ use Rattle.table.specs.declared.types.Field.{Field}
 use Rattle.table.specs.declared.view.Table.{Table}
 use Rattle.table.specs.Faults.{Passes, fault, _>>=_}
 use Rattle.table.specs.Records.{Op}
-use Rattle.table.specs.Program.{Function, Program, program}
+use Rattle.table.specs.Program.{Function, Program}
 use Rattle.table.specs.Reading.{program-of}
 use Rattle.rules.specs.declared.parts.Sort.the-variants.{InBody}
 use Rattle.rules.specs.Rules.{number, no-function, callee}
 use Rattle.rules.specs.Scopes.{read, start, bodies, verdict}
 use Rattle.rules.specs.Scan.{scan}
-use Rattle.rules.specs.Formed.{Formed, Shaped}
-use Rattle.rules.specs.Laws.{Lawful}
-use Rattle.rules.specs.Seen.{clipped-function, clipped, seen}
+use Rattle.rules.specs.Seen.{clipped-function, seen}
 use Rattle.rules.specs.Parts.{span}
 use Rattle.rules.specs.Checked.{checked, Opens, Says}
 use Rattle.rules.proofs.Formed.{program-stands}

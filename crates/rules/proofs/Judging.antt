@@ -3,10 +3,9 @@ use mathlib.Core.Path.{_≡_, refl, sym, ap, _∙_, subst}
 use mathlib.Core.Bool.{Bool, true, false, cond, not, _&&_, _||_}
 use mathlib.Core.List.{List, [], _∷_, _++_}
 use Prim.Native.Nat.{ℕ, zero, suc, _+_, _-_, _≤_, _<_}
-use native.Mathlib.Nat.{add-assoc}
 use native.Mathlib.Omega.{arith}
 use lib.Dec.{leb, ltb, eqb}
-use lib.ListN.{length, take, drop, getD, set, length-take, length-drop}
+use lib.ListN.{length, take, drop, getD, set, length-drop}
 use lib.Seq.{set-set, set-getD, take-set-lt}
 use Rattle.std.proofs.shelf.Ways.{tells}
 use Rattle.std.proofs.shelf.Lists.{take-all, take-append-le, take-take, take-more-set, length-take-le, drop-more, drop-take, drop-drop}
@@ -26,10 +25,10 @@ use Rattle.table.specs.Faults.{Passes, fault, _>>=_}
 use Rattle.table.specs.Records.{Op, New, Null, Int, Share, Own, Get, Take, Set, Add, Call, Fork, Return, Again, Join, Emit, Ask, meant}
 use Rattle.table.specs.Program.{Function, Program}
 use Rattle.rules.specs.declared.parts.Sort.{Sort}
-use Rattle.rules.specs.declared.parts.Sort.the-variants.{InBody, InYes, InNo}
+use Rattle.rules.specs.declared.parts.Sort.the-variants.{InYes, InNo}
 use Rattle.table.specs.Types.{is-pristine, is-var, is-once, is-spec}
 use Rattle.rules.specs.Rules.{Premise, first, premises, asks, bound, yes-types, slot, slot-kind, in-scope, has-field, there, field-mode}
-use Rattle.rules.specs.Scopes.{Shape, Asks, shape, grown, settled}
+use Rattle.rules.specs.Scopes.{Asks, shape, grown, settled}
 use Rattle.rules.specs.Scan.{Scanner, is-no, fitting, judge, judged-of, test-by, follow, follow-of, scan}
 use Rattle.rules.specs.Scoped.{Low, Changes}
 use Rattle.rules.specs.Parts.{span}
@@ -182,9 +181,10 @@ module _ (p : Program) (fn : Function) where
       (two-in ts x y (a .0) .0, low-field h (slot ts x) f (and-parts (there p fn ts x f) (is-once (field-mode p fn ts x f)) (premise (asks p fn ts (Try x f y)) e 2) .0))
   accepted-changes h ts (Fix x f y) e =
       (two-in ts x y (premise (asks p fn ts (Fix x f y)) e 0) .0, low-field h (slot ts x) f (and-parts (there p fn ts x f) (is-spec (field-mode p fn ts x f)) (premise (asks p fn ts (Fix x f y)) e 2) .0))
-  accepted-changes h ts (Stable x f) e =
-      (ltb-true x (length ts) (premise (asks p fn ts (Stable x f)) e 0),
-      low-field h (slot ts x) f (and-parts (there p fn ts x f) (is-once (field-mode p fn ts x f) || is-spec (field-mode p fn ts x f)) (premise (asks p fn ts (Stable x f)) e 2) .0))
+  accepted-changes h ts (Stable x f) e = (
+    ltb-true x (length ts) (premise (asks p fn ts (Stable x f)) e 0),
+    low-field h (slot ts x) f (and-parts (there p fn ts x f) (is-once (field-mode p fn ts x f) || is-spec (field-mode p fn ts x f)) (premise (asks p fn ts (Stable x f)) e 2) .0),
+  )
 
 pub accepted-fits : (levels left : ℕ) (q : Sort) (t : Test) (a b : ℕ) → fitting levels left q (Asks t a b) ≡ true → (a + b ≤ left) × (1 ≤ levels)
 accepted-fits levels left q t a b h = elim (is-no q) as (λ n. (not (eqb a 0) && cond n (leb (a + b) left) (ltb (a + b) left) && not (eqb levels 0)) ≡ true → (a + b ≤ left) × (1 ≤ levels)) [

@@ -21,7 +21,7 @@ use Rattle.table.specs.Program.{Function, Program}
 use Rattle.rules.specs.Rules.{Premise, first, premises, bound, yes-types}
 use Rattle.rules.specs.Scopes.{Block, Yes, No, state, end-of, depth, in-no, in-yes, placed, close, Shape, Plain, Last, Joins, Asks, shape, grown, move, asked, refusal, after, settled, read, start}
 use Rattle.rules.specs.declared.parts.Sort.{Sort}
-use Rattle.rules.specs.declared.parts.Sort.the-variants.{InBody, InYes, InNo}
+use Rattle.rules.specs.declared.parts.Sort.the-variants.{InBody}
 use Rattle.rules.specs.Scan.{sort-of, is-no, is-yes, fitting, judge, test-by, follow, follow-of, scan, Scan-stands}
 use Rattle.rules.proofs.Steps.{first-append, first-cons}
 use Rattle.rules.proofs.Blocks.{close-stays, close-no, close-yes, close-turn}

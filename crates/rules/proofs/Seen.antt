@@ -1,7 +1,7 @@
 -- What the check reads of a table.
 use mathlib.Core.Path.{_≡_, refl, sym, ap, _∙_}
 use mathlib.Core.List.{List, [], _∷_, map}
-use mathlib.Core.Logic.{_⊎_, inl, inr}
+use mathlib.Core.Logic.{inl, inr}
 use Prim.Native.Nat.{ℕ, zero, suc, _≤_, _<_, min}
 use native.Mathlib.Omega.{arith}
 use lib.ListN.{length, getD, take, length-map, length-take}
@@ -11,7 +11,7 @@ use Rattle.std.specs.declared.option.Option.{Option}
 use Rattle.std.specs.declared.option.Option.the-variants.{Some, None}
 use Rattle.std.specs.declared.result.Result.{Result}
 use Rattle.std.specs.declared.result.Result.the-variants.{Ok, Err}
-use Rattle.std.proofs.shelf.Lists.{getD-map, getD-past, getD-take, take-all}
+use Rattle.std.proofs.shelf.Lists.{getD-past, getD-take}
 use Rattle.std.proofs.shelf.Maps.{nth-getD, nth-past}
 use Rattle.std.proofs.shelf.Tests.{cases-lt, lt-ltb, le-ltb}
 use lib.Dec.{ltb}
@@ -20,13 +20,11 @@ use Rattle.table.specs.declared.types.Ty.{Ty}
 use Rattle.table.specs.declared.types.Field.{Field}
 use Rattle.table.specs.declared.view.Table.{Table}
 use Rattle.table.specs.Records.{Op}
-use Rattle.table.specs.Program.{Function, Program, program}
+use Rattle.table.specs.Program.{Function}
 use Rattle.table.specs.declared.view.Lacking.{Lacking}
-use Rattle.table.specs.Reading.{bytes-of, program-of, fields-of, function-of, result-of, present, record-of}
+use Rattle.table.specs.Reading.{program-of, fields-of, function-of, result-of, present, record-of}
 use Rattle.rules.specs.Rules.{number, no-field, no-function, callee, declared}
-use Rattle.rules.specs.Formed.{Formed, Shaped}
-use Rattle.rules.specs.Seen.{clipped-function, clipped, seen}
-use Rattle.rules.proofs.Formed.{program-stands}
+use Rattle.rules.specs.Seen.{clipped-function, seen}
 
 -- what a record that was found says
 abbrev pub said : Result Op Lacking → Option Op

@@ -1,6 +1,6 @@
 -- Each step leads on to the scope before a record.
 use mathlib.Core.Path.{_≡_, refl, sym, ap, _∙_, subst, subst⁻¹}
-use mathlib.Core.Bool.{Bool, true, false, cond}
+use mathlib.Core.Bool.{cond}
 use mathlib.Core.List.{List, [], _∷_}
 use Prim.Native.Nat.{ℕ, zero, suc, _+_, _≤_, _<_}
 use native.Mathlib.Omega.{arith}
@@ -18,11 +18,11 @@ use Rattle.table.specs.declared.records.Record.the-variants as coded
 use Rattle.table.specs.Records.{Op, Ask, meant, meantBy}
 use Rattle.table.specs.Program.{Function, Program}
 use Rattle.rules.specs.Rules.{record-at, no-function, callee, first, premises, asks, bound, yes-types}
-use Rattle.rules.specs.Scopes.{Block, Yes, No, State, state, end-of, close, shape, grown, move, refusal, after, start, before, verdict}
-use Rattle.rules.specs.Blocks.{Accepted, Tests, Two-blocks}
+use Rattle.rules.specs.Scopes.{Block, Yes, No, State, state, end-of, close, shape, grown, move, after, before, verdict}
+use Rattle.rules.specs.Blocks.{Accepted, Tests}
 use Rattle.rules.specs.declared.walking.Step.{Step}
 use Rattle.rules.specs.Walk.{unless, allowing, Toward, Leads, Gives}
-use Rattle.rules.proofs.Steps.{Good, good, before-suc, verdict-stands}
+use Rattle.rules.proofs.Steps.{good, before-suc, verdict-stands}
 use Rattle.rules.proofs.Blocks.{blocks-stand}
 
 -- a block that goes on past record n stays open

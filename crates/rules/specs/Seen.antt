@@ -1,12 +1,7 @@
 -- The program that the check reads from a table: of a struct the first eight fields, and of a function the first four parameters. A table that opens has no more.
-use mathlib.Core.List.{List, map}
-use Prim.Native.Nat.{ℕ}
+use mathlib.Core.List.{map}
 use lib.ListN.{take}
-use denote.Ref.{now}
-use Rattle.std.specs.declared.option.Option.{Option}
-use Rattle.table.specs.declared.types.Ty.{Ty}
 use Rattle.table.specs.declared.view.Table.{Table}
-use Rattle.table.specs.Records.{Op}
 use Rattle.table.specs.Program.{Function, Program}
 use Rattle.table.specs.Reading.{program-of}
 use Rattle.rules.specs.declared.body.Body.{Body}

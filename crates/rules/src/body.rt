@@ -29,6 +29,7 @@ pub const NUMBER: Ty = Ty {
     barred: 0,
     withheld: 0,
 };
+
 const NO_FIELD: Field = Field {
     mode: Mode::Var,
     ty: NUMBER,

@@ -108,7 +108,15 @@ pub fn check_block(body: Body<'_>, types: &mut [Ty], depth: usize, part: Part) -
 }
 
 // Checks an accepted test's yes block, its no block, and what comes behind them.
-fn check_test(body: Body<'_>, types: &mut [Ty], depth: usize, part: Part, test: Test, yes: u16, no: u16) -> Result<(), Fault>
+fn check_test(
+    body: Body<'_>,
+    types: &mut [Ty],
+    depth: usize,
+    part: Part,
+    test: Test,
+    yes: u16,
+    no: u16,
+) -> Result<(), Fault>
     requires { ⌜ depth ≤ 16 ⌝ ∗ ⌜ 16 ≤ length (now types) ⌝ ∗ ⌜ part .end ≤ length (function-in body .records) ⌝ }
     requires { ⌜ part .place + 1 + yes + no ≤ part .end ⌝ ∗ ⌜ 1 ≤ part .levels ⌝ ∗ ⌜ test-refused-in body (take depth (now types)) test ≡ None ⌝ }
     ensures value { λ r. ⌜ ((f : ℕ) → part .end - (part .place + 1) < f → r ≡ tested f (body .entry) (take depth (now (types .entry))) part test yes no) ⌝ }
@@ -142,7 +150,13 @@ fn check_test(body: Body<'_>, types: &mut [Ty], depth: usize, part: Part, test: 
 }
 
 // Checks a yes block under the type that its test changes; the guard puts that type back on every way out.
-fn check_yes(body: Body<'_>, types: &mut [Ty], depth: usize, part: Part, test: Test) -> Result<(), Fault>
+fn check_yes(
+    body: Body<'_>,
+    types: &mut [Ty],
+    depth: usize,
+    part: Part,
+    test: Test,
+) -> Result<(), Fault>
     requires { ⌜ depth ≤ 16 ⌝ ∗ ⌜ 16 ≤ length (now types) ⌝ ∗ ⌜ part .end ≤ length (function-in body .records) ⌝ ∗ ⌜ test-refused-in body (take depth (now types)) test ≡ None ⌝ }
     ensures value { λ r. ⌜ ((f : ℕ) → part .end - part .place < f → r ≡ scanned f (body .entry) (yes-types (program-in (body .entry)) (function-in (body .entry)) (take depth (now (types .entry))) test) part) ⌝ }
     ensures types { λ _. ⌜ take depth (now (types .exit)) ≡ take depth (now (types .entry)) ⌝ }

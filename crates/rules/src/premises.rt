@@ -59,41 +59,53 @@ impl<'t, 's> Scope<'t, 's> {
     fn share_rule(self, z: u8, x: u8) -> Option<u8>
         ensures { λ r. ⌜ r ≡ refused (self .entry) (op.Share z x) ⌝ }
     {
-        first_failing(&[(21, self.free(z)), (22, self.in_scope(x)), (24, !self.is_pristine(x))])
+        first_failing(
+            &[
+                (21, self.free(z)),
+                (22, self.in_scope(x)),
+                (24, !self.is_pristine(x)),
+            ],
+        )
     }
 
     fn own_rule(self, z: u8, x: u8) -> Option<u8>
         ensures { λ r. ⌜ r ≡ refused (self .entry) (op.Own z x) ⌝ }
     {
-        first_failing(&[
-            (21, self.free(z)),
-            (22, self.in_scope(x)),
-            (24, self.is_pristine(x)),
-            (26, self.slot(x).withheld == 0),
-        ])
+        first_failing(
+            &[
+                (21, self.free(z)),
+                (22, self.in_scope(x)),
+                (24, self.is_pristine(x)),
+                (26, self.slot(x).withheld == 0),
+            ],
+        )
     }
 
     fn get_rule(self, z: u8, x: u8, f: u8) -> Option<u8>
         ensures { λ r. ⌜ r ≡ refused (self .entry) (op.Get z x f) ⌝ }
     {
-        first_failing(&[
-            (21, self.free(z)),
-            (22, self.in_scope(x)),
-            (24, !self.is_number(x)),
-            (25, self.has_field(x, f)),
-            (26, !(self.mode(x, f).is_var() & self.is_alias(x))),
-        ])
+        first_failing(
+            &[
+                (21, self.free(z)),
+                (22, self.in_scope(x)),
+                (24, !self.is_number(x)),
+                (25, self.has_field(x, f)),
+                (26, !(self.mode(x, f).is_var() & self.is_alias(x))),
+            ],
+        )
     }
 
     fn take_rule(self, z: u8, x: u8, f: u8) -> Option<u8>
         ensures { λ r. ⌜ r ≡ refused (self .entry) (op.Take z x f) ⌝ }
     {
-        first_failing(&[
-            (21, self.free(z)),
-            (22, self.in_scope(x)),
-            (24, self.is_held(x)),
-            (25, self.has_field(x, f) & self.mode(x, f).is_var()),
-        ])
+        first_failing(
+            &[
+                (21, self.free(z)),
+                (22, self.in_scope(x)),
+                (24, self.is_held(x)),
+                (25, self.has_field(x, f) & self.mode(x, f).is_var()),
+            ],
+        )
     }
 
     // What x may have set in it: of a pristine object all but a once field, of an owned one a var field.
@@ -113,52 +125,73 @@ impl<'t, 's> Scope<'t, 's> {
     {
         let field = self.field_type(x, f);
         let from = self.slot(y);
-        !self.mode(x, f).is_var() & field.kind.is_owned() & self.is_alias(y) & (from.strukt == field.strukt) & (from.withheld == 0)
+        !self.mode(x, f).is_var()
+            & field.kind.is_owned()
+            & self.is_alias(y)
+            & (from.strukt == field.strukt)
+            & (from.withheld == 0)
     }
 
     fn set_rule(self, z: u8, x: u8, f: u8, y: u8) -> Option<u8>
         ensures { λ r. ⌜ r ≡ refused (self .entry) (op.Set z x f y) ⌝ }
     {
-        first_failing(&[
-            (21, self.free(z)),
-            (22, self.in_scope(x) & self.in_scope(y) & (x != y)),
-            (24, self.is_held(x)),
-            (25, self.has_field(x, f) & self.may_set(x, f)),
-            (27, can_flow(self.slot(y), self.field_type(x, f)) | self.is_tentative(x, f, y)),
-        ])
+        first_failing(
+            &[
+                (21, self.free(z)),
+                (22, self.in_scope(x) & self.in_scope(y) & (x != y)),
+                (24, self.is_held(x)),
+                (25, self.has_field(x, f) & self.may_set(x, f)),
+                (
+                    27,
+                    can_flow(self.slot(y), self.field_type(x, f)) | self.is_tentative(x, f, y),
+                ),
+            ],
+        )
     }
 
     fn add_rule(self, z: u8, x: u8, y: u8) -> Option<u8>
         ensures { λ r. ⌜ r ≡ refused (self .entry) (op.Add z x y) ⌝ }
     {
-        first_failing(&[
-            (21, self.free(z)),
-            (22, self.in_scope(x) & self.in_scope(y)),
-            (24, self.is_number(x) & self.is_number(y)),
-        ])
+        first_failing(
+            &[
+                (21, self.free(z)),
+                (22, self.in_scope(x) & self.in_scope(y)),
+                (24, self.is_number(x) & self.is_number(y)),
+            ],
+        )
     }
 
     fn call_rule(self, z: u8, n: u8, args: &[u8]) -> Option<u8>
         ensures { λ r. ⌜ r ≡ refused (self .entry) (op.Call z n (now (args .entry))) ⌝ }
     {
         let given = self.arguments(n as usize, args);
-        first_failing(&[
-            (21, self.free(z)),
-            (22, self.all_in_scope(given) & all_differ(given)),
-            (23, self.body.has_function(n) & zeros_from(args, self.body.params(n as usize))),
-            (27, self.flow_to(given, n as usize)),
-        ])
+        first_failing(
+            &[
+                (21, self.free(z)),
+                (22, self.all_in_scope(given) & all_differ(given)),
+                (
+                    23,
+                    self.body.has_function(n) & zeros_from(args, self.body.params(n as usize)),
+                ),
+                (27, self.flow_to(given, n as usize)),
+            ],
+        )
     }
 
     fn fork_rule(self, n: u8, args: &[u8]) -> Option<u8>
         ensures { λ r. ⌜ r ≡ refused (self .entry) (op.Fork n (now (args .entry))) ⌝ }
     {
         let given = self.arguments(n as usize, args);
-        first_failing(&[
-            (22, self.all_in_scope(given) & all_differ(given)),
-            (23, self.body.has_function(n) & zeros_from(args, self.body.params(n as usize))),
-            (27, self.flow_to(given, n as usize)),
-        ])
+        first_failing(
+            &[
+                (22, self.all_in_scope(given) & all_differ(given)),
+                (
+                    23,
+                    self.body.has_function(n) & zeros_from(args, self.body.params(n as usize)),
+                ),
+                (27, self.flow_to(given, n as usize)),
+            ],
+        )
     }
 
     fn return_rule(self, x: u8) -> Option<u8>
@@ -173,11 +206,13 @@ impl<'t, 's> Scope<'t, 's> {
     {
         let n = self.body.function;
         let given = self.arguments(n, args);
-        first_failing(&[
-            (22, self.all_in_scope(given) & all_differ(given)),
-            (23, zeros_from(args, self.body.params(n))),
-            (27, self.flow_to(given, n)),
-        ])
+        first_failing(
+            &[
+                (22, self.all_in_scope(given) & all_differ(given)),
+                (23, zeros_from(args, self.body.params(n))),
+                (27, self.flow_to(given, n)),
+            ],
+        )
     }
 
     fn emit_rule(self, x: u8) -> Option<u8>
@@ -209,99 +244,154 @@ impl<'t, 's> Scope<'t, 's> {
     fn same_rule(self, x: u8, y: u8) -> Option<u8>
         ensures { λ r. ⌜ r ≡ refused-test (self .entry) (asked.Same x y) ⌝ }
     {
-        first_failing(&[
-            (22, self.in_scope(x) & self.in_scope(y)),
-            (24, !self.is_number(x) & !self.is_number(y)),
-            (27, self.slot(x).strukt == self.slot(y).strukt),
-        ])
+        first_failing(
+            &[
+                (22, self.in_scope(x) & self.in_scope(y)),
+                (24, !self.is_number(x) & !self.is_number(y)),
+                (27, self.slot(x).strukt == self.slot(y).strukt),
+            ],
+        )
     }
 
     fn equal_rule(self, x: u8, y: u8) -> Option<u8>
         ensures { λ r. ⌜ r ≡ refused-test (self .entry) (asked.Equal x y) ⌝ }
     {
-        first_failing(&[
-            (22, self.in_scope(x) & self.in_scope(y)),
-            (24, self.is_number(x) & self.is_number(y)),
-        ])
+        first_failing(
+            &[
+                (22, self.in_scope(x) & self.in_scope(y)),
+                (24, self.is_number(x) & self.is_number(y)),
+            ],
+        )
     }
 
     fn less_rule(self, x: u8, y: u8) -> Option<u8>
         ensures { λ r. ⌜ r ≡ refused-test (self .entry) (asked.Less x y) ⌝ }
     {
-        first_failing(&[
-            (22, self.in_scope(x) & self.in_scope(y)),
-            (24, self.is_number(x) & self.is_number(y)),
-        ])
+        first_failing(
+            &[
+                (22, self.in_scope(x) & self.in_scope(y)),
+                (24, self.is_number(x) & self.is_number(y)),
+            ],
+        )
     }
 
     fn link_rule(self, x: u8, f: u8, y: u8, g: u8) -> Option<u8>
         ensures { λ r. ⌜ r ≡ refused-test (self .entry) (asked.Link x f y g) ⌝ }
     {
         let field = self.field_type(x, f);
-        first_failing(&[
-            (22, self.in_scope(x) & self.in_scope(y) & (x != y)),
-            (24, self.is_lasting(x) & self.is_pristine(y)),
-            (25, self.has_field(x, f) & self.mode(x, f).is_spec() & self.has_field(y, g) & self.mode(y, g).is_val()),
-            (26, is_alone(self.slot(y).withheld, g)),
-            (27, field.kind.is_owned() & (field.strukt == self.slot(y).strukt) & can_flow(field, self.field_type(y, g))),
-        ])
+        first_failing(
+            &[
+                (22, self.in_scope(x) & self.in_scope(y) & (x != y)),
+                (24, self.is_lasting(x) & self.is_pristine(y)),
+                (
+                    25,
+                    self.has_field(x, f)
+                        & self.mode(x, f).is_spec()
+                        & self.has_field(y, g)
+                        & self.mode(y, g).is_val(),
+                ),
+                (26, is_alone(self.slot(y).withheld, g)),
+                (
+                    27,
+                    field.kind.is_owned()
+                        & (field.strukt == self.slot(y).strukt)
+                        & can_flow(field, self.field_type(y, g)),
+                ),
+            ],
+        )
     }
 
     fn unlink_rule(self, x: u8, f: u8, y: u8, g: u8) -> Option<u8>
         ensures { λ r. ⌜ r ≡ refused-test (self .entry) (asked.Unlink x f y g) ⌝ }
     {
         let field = self.field_type(x, f);
-        first_failing(&[
-            (22, self.in_scope(x) & self.in_scope(y) & (x != y)),
-            (24, self.is_lasting(x) & self.is_alias(y)),
-            (25, self.has_field(x, f) & self.mode(x, f).is_spec() & self.has_field(y, g) & !self.mode(y, g).is_var()),
-            (26, self.mode(y, g).is_val() | has_bit(self.slot(y).withheld, g)),
-            (27, (self.slot(y).strukt == field.strukt) & can_flow(self.field_type(y, g), field)),
-        ])
+        first_failing(
+            &[
+                (22, self.in_scope(x) & self.in_scope(y) & (x != y)),
+                (24, self.is_lasting(x) & self.is_alias(y)),
+                (
+                    25,
+                    self.has_field(x, f)
+                        & self.mode(x, f).is_spec()
+                        & self.has_field(y, g)
+                        & !self.mode(y, g).is_var(),
+                ),
+                (
+                    26,
+                    self.mode(y, g).is_val() | has_bit(self.slot(y).withheld, g),
+                ),
+                (
+                    27,
+                    (self.slot(y).strukt == field.strukt) & can_flow(self.field_type(y, g), field),
+                ),
+            ],
+        )
     }
 
     fn swap_rule(self, x: u8, f: u8, y: u8, w: u8) -> Option<u8>
         ensures { λ r. ⌜ r ≡ refused-test (self .entry) (asked.Swap x f y w) ⌝ }
     {
         let field = self.field_type(x, f);
-        first_failing(&[
-            (22, self.in_scope(x) & self.in_scope(y) & self.in_scope(w) & (x != y) & (x != w) & (y != w)),
-            (24, self.is_lasting(x) & self.is_alias(y)),
-            (25, self.has_field(x, f) & self.mode(x, f).is_spec()),
-            (27, (self.slot(y).strukt == field.strukt) & can_flow(self.slot(w), field)),
-        ])
+        first_failing(
+            &[
+                (
+                    22,
+                    self.in_scope(x)
+                        & self.in_scope(y)
+                        & self.in_scope(w)
+                        & (x != y)
+                        & (x != w)
+                        & (y != w),
+                ),
+                (24, self.is_lasting(x) & self.is_alias(y)),
+                (25, self.has_field(x, f) & self.mode(x, f).is_spec()),
+                (
+                    27,
+                    (self.slot(y).strukt == field.strukt) & can_flow(self.slot(w), field),
+                ),
+            ],
+        )
     }
 
     fn try_rule(self, x: u8, f: u8, y: u8) -> Option<u8>
         ensures { λ r. ⌜ r ≡ refused-test (self .entry) (asked.Try x f y) ⌝ }
     {
-        first_failing(&[
-            (22, self.in_scope(x) & self.in_scope(y) & (x != y)),
-            (24, self.is_lasting(x) & self.is_pristine(y)),
-            (25, self.has_field(x, f) & self.mode(x, f).is_once()),
-            (26, self.slot(y).withheld == 0),
-            (27, can_flow(self.slot(y), self.field_type(x, f))),
-        ])
+        first_failing(
+            &[
+                (22, self.in_scope(x) & self.in_scope(y) & (x != y)),
+                (24, self.is_lasting(x) & self.is_pristine(y)),
+                (25, self.has_field(x, f) & self.mode(x, f).is_once()),
+                (26, self.slot(y).withheld == 0),
+                (27, can_flow(self.slot(y), self.field_type(x, f))),
+            ],
+        )
     }
 
     fn fix_rule(self, x: u8, f: u8, y: u8) -> Option<u8>
         ensures { λ r. ⌜ r ≡ refused-test (self .entry) (asked.Fix x f y) ⌝ }
     {
-        first_failing(&[
-            (22, self.in_scope(x) & self.in_scope(y)),
-            (24, self.is_lasting(x) & !self.is_number(y)),
-            (25, self.has_field(x, f) & self.mode(x, f).is_spec()),
-            (27, self.slot(y).strukt == self.field_type(x, f).strukt),
-        ])
+        first_failing(
+            &[
+                (22, self.in_scope(x) & self.in_scope(y)),
+                (24, self.is_lasting(x) & !self.is_number(y)),
+                (25, self.has_field(x, f) & self.mode(x, f).is_spec()),
+                (27, self.slot(y).strukt == self.field_type(x, f).strukt),
+            ],
+        )
     }
 
     fn stable_rule(self, x: u8, f: u8) -> Option<u8>
         ensures { λ r. ⌜ r ≡ refused-test (self .entry) (asked.Stable x f) ⌝ }
     {
-        first_failing(&[
-            (22, self.in_scope(x)),
-            (24, self.is_lasting(x)),
-            (25, self.has_field(x, f) & (self.mode(x, f).is_once() | self.mode(x, f).is_spec())),
-        ])
+        first_failing(
+            &[
+                (22, self.in_scope(x)),
+                (24, self.is_lasting(x)),
+                (
+                    25,
+                    self.has_field(x, f) & (self.mode(x, f).is_once() | self.mode(x, f).is_spec()),
+                ),
+            ],
+        )
     }
 }

@@ -52,7 +52,11 @@ impl<'t, 's> Scope<'t, 's> {
         ensures { λ r. ⌜ r ≡ slot (types-in (self .entry)) x ⌝ }
     {
         let i = x as usize;
-        if i < self.types.len() { self.types[i] } else { NUMBER }
+        if i < self.types.len() {
+            self.types[i]
+        } else {
+            NUMBER
+        }
     }
 
     pub fn is_number(self, x: u8) -> bool
@@ -140,7 +144,11 @@ impl<'t, 's> Scope<'t, 's> {
         ensures few { λ r. ⌜ length (now r) ≤ length (callee (program-in (self .entry .body)) n .params) ⌝ }
     {
         let count = self.body.params(n);
-        if count < bytes.len() { &bytes[0..count] } else { bytes }
+        if count < bytes.len() {
+            &bytes[0..count]
+        } else {
+            bytes
+        }
     }
 }
 

@@ -42,7 +42,15 @@ fn allowed<'t>(body: Body<'t>, types: &[Ty], place: usize) -> Option<Record<'t>>
 }
 
 // Goes on behind a test: into its yes block or its no block, or past both, towards the record at the index.
-fn pass_test(body: Body<'_>, types: &mut [Ty], from: Step, index: usize, test: Test, yes: u16, no: u16) -> usize
+fn pass_test(
+    body: Body<'_>,
+    types: &mut [Ty],
+    from: Step,
+    index: usize,
+    test: Test,
+    yes: u16,
+    no: u16,
+) -> usize
     requires { ⌜ from .depth ≤ 16 ⌝ ∗ ⌜ 16 ≤ length (now types) ⌝ ∗ ⌜ from .place < index ⌝ ∗ ⌜ test-refused-in body (take (from .depth) (now types)) test ≡ None ⌝ }
     ensures nearer { λ r. ⌜ from .place < r ⌝ ∗ ⌜ r ≤ index ⌝ }
     ensures leads { λ r. ⌜ (Accepted (program-in (body .entry)) (function-in (body .entry)) → index < length (function-in (body .entry) .records) → Tests (function-in (body .entry)) (from .place) test yes no → Toward (program-in (body .entry)) (function-in (body .entry)) index (from .place) (take (from .depth) (now (types .entry))) → Toward (program-in (body .entry)) (function-in (body .entry)) index r (take (from .depth) (now (types .exit)))) ⌝ }
@@ -92,7 +100,12 @@ fn advance(body: Body<'_>, types: &mut [Ty], from: Step, index: usize) -> Option
 
 // How many types are in scope before a record of a table that the check accepts; the scratch holds them then. None where there is no such record, or
 // scratch for fewer than 16.
-pub fn scope_before(table: &Table<'_>, function: usize, index: usize, scratch: &mut [Ty]) -> Option<usize>
+pub fn scope_before(
+    table: &Table<'_>,
+    function: usize,
+    index: usize,
+    scratch: &mut [Ty],
+) -> Option<usize>
     ensures missing { λ r. ⌜ (length (callee (seen (now (table .entry))) function .records) ≤ index → r ≡ None) ⌝ }
     ensures small { λ r. ⌜ (length (now (scratch .entry)) < 16 → r ≡ None) ⌝ }
     ensures found { λ r. ⌜ (verdict (seen (now (table .entry))) ≡ Ok tt → index < length (callee (seen (now (table .entry))) function .records) → 16 ≤ length (now (scratch .entry)) → Gives (before (seen (now (table .entry))) (callee (seen (now (table .entry))) function) index .types) (now (scratch .exit)) r) ⌝ }

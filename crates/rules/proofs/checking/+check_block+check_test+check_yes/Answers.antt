@@ -1,4 +1,4 @@
-use mathlib.Core.Path.{_≡_, refl, sym, ap, _∙_}
+use mathlib.Core.Path.{_≡_, refl, ap, _∙_}
 use mathlib.Core.List.{List}
 use Prim.Native.Nat.{_+_, _-_, _<_, _≤_}
 use native.Mathlib.Omega.{arith}
@@ -7,10 +7,9 @@ use lib.ListN.{length, take, length-take}
 use borrow.Author.Needs.{needs}
 use Rattle.std.proofs.shelf.Results.{err-from-errBy}
 use Rattle.std.specs.declared.option.Option.the-variants.{None}
-use Rattle.std.specs.declared.result.Result.the-variants.{Ok, Err}
+use Rattle.std.specs.declared.result.Result.the-variants.{Err}
 use Rattle.table.specs.declared.types.Ty.{Ty}
 use Rattle.table.specs.Records.{meant}
-use Rattle.rules.specs.declared.parts.Sort.the-variants.{InYes}
 use Rattle.rules.specs.Rules.{record-at, first, asks, bound, yes-types, number}
 use Rattle.rules.specs.Seen.{program-in, function-in}
 use Rattle.rules.specs.Scan.{scan}

@@ -3,7 +3,7 @@ use Prim.Native.Nat.{_+_, _<_, _≤_}
 use borrow.Author.Needs.{needs}
 use native.Mathlib.Omega.{arith}
 use native.Mathlib.Numerals.{add-one}
-use lib.ListN.{length, take}
+use lib.ListN.{take}
 use Rattle.std.specs.declared.option.Option.the-variants.{Some, None}
 use Rattle.table.specs.Records.{meant}
 use Rattle.rules.specs.Rules.{record-at, first, asks}

@@ -1,9 +1,9 @@
-use mathlib.Core.Path.{_≡_, ap}
-use Prim.Native.Nat.{_+_, _<_, _≤_}
+use mathlib.Core.Path.{ap}
+use Prim.Native.Nat.{_+_, _<_}
 use borrow.Author.Needs.{needs}
 use native.Mathlib.Omega.{arith}
 use native.Mathlib.Numerals.{add-one}
-use lib.ListN.{length, take, set, length-take}
+use lib.ListN.{take, set, length-take}
 use Rattle.rules.specs.Rules.{yes-types}
 use Rattle.rules.specs.Seen.{program-in, function-in}
 use Rattle.rules.proofs.Seen.{seen-narrow}

@@ -2,7 +2,7 @@ use mathlib.Core.Path.{_≡_, refl}
 use Prim.Native.Nat.{_<_, _≤_}
 use borrow.Author.Needs.{needs}
 use native.Mathlib.Omega.{arith}
-use lib.ListN.{length, take}
+use lib.ListN.{length}
 use Rattle.rules.specs.Rules.{callee}
 use Rattle.rules.specs.Seen.{seen}
 use Rattle.rules.proofs.Walk.{accepted-of, gives, no-step}

@@ -1,8 +1,8 @@
-use mathlib.Core.Path.{_≡_, refl, sym, ap, _∙_}
+use mathlib.Core.Path.{sym, ap, _∙_}
 use lib.ListN.{getD}
 use denote.Ref.{now}
 use Rattle.table.specs.declared.types.Ty.{Ty}
-use Rattle.rules.specs.Rules.{callee, flows, slot, number}
+use Rattle.rules.specs.Rules.{callee, flows, slot}
 use Rattle.rules.specs.Seen.{program-in}
 use Rattle.rules.proofs.Loops.{flow-fails, flow-goes, flow-ends}
 use Rattle.rules.proofs.scope.Scope.flow_to.Needs as need
