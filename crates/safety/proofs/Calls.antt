@@ -1,18 +1,17 @@
 -- Calls, forks, returns and again, on threads of frames.
-use mathlib.Core.Path.{_≡_, refl, sym, ap, ap₂, subst, _∙_, fun-ext}
+use mathlib.Core.Path.{_≡_, refl, sym, ap, ap₂, subst, _∙_}
 use mathlib.Core.List.{List, [], _∷_, _++_}
 use mathlib.Core.Logic.{_⊎_, inl, inr}
 use Prim.Native.Nat.{ℕ, suc, zero, _<_, _≤_, _+_}
 use native.Mathlib.Omega.{arith}
-use native.Mathlib.Nat.{zero-add, add-suc}
+use native.Mathlib.Nat.{zero-add}
 use native.Mathlib.Decide.{ℕ-discrete}
 use lib.ListN.{getD, set, length}
 use Rattle.machine.specs.declared.threads.Slot.{Slot}
-use Rattle.machine.specs.declared.threads.Slot.the-variants.{Empty, Null, Number, Reference}
+use Rattle.machine.specs.declared.threads.Slot.the-variants.{Empty}
 use Rattle.machine.specs.declared.threads.Frame.{Frame}
-use Rattle.machine.specs.World.{no-frame}
-use Rattle.safety.specs.Model.{Claim, num, pt, Structs, Spot, spot, Slots, Entry, out, here, spot?, put, Heap, Inv}
-use Rattle.safety.specs.Step.{Mem, Sound, Falls, ends, stays, pops}
+use Rattle.safety.specs.Model.{Claim, Structs, Spot, spot, Slots, Entry, out, here, put}
+use Rattle.safety.specs.Step.{Mem, Sound, Falls, ends, stays}
 use Rattle.safety.specs.Frames.{Arg, kept, leave, arrive, passed, passedAll, Ready, Later, AllReady}
 use Rattle.safety.specs.Threads.{Scopes, typed, entryAt, frameAt, flat, FallsSc}
 use Rattle.safety.specs.Calls.{argsTo, spendVals, givenVals, paramScope, IsFrame}

@@ -1,22 +1,20 @@
 -- The changes of one cell: its content goes to a slot, or a slot's value goes to it, or it is marked.
 use mathlib.Core.Path.{_≡_, refl, sym, ap, subst, _∙_}
 use mathlib.Core.Bool.{Bool, true, false}
-use mathlib.Core.List.{List, [], _∷_}
+use mathlib.Core.List.{List}
 use mathlib.Core.Logic.{_⊎_, inl, inr}
-use Prim.Native.Nat.{ℕ, suc, zero, _<_, _≤_}
+use Prim.Native.Nat.{ℕ, suc, _<_}
 use native.Mathlib.Omega.{arith}
-use Rattle.table.specs.declared.types.Mode.the-variants.{Var, Val, Once, Spec}
+use Rattle.table.specs.declared.types.Mode.the-variants.{Once, Spec}
 use Rattle.machine.specs.declared.threads.Slot.{Slot}
-use Rattle.machine.specs.declared.threads.Slot.the-variants.{Empty, Null, Number, Reference}
-use Rattle.machine.specs.Values.{reference-of, word-of}
-use Rattle.safety.specs.Model.{Right, alias, owned, pristine, Claim, num, pt, Content, fnum, falias, fowned, Structs, Cell, Heap, Slots, Spot, Entry, out, here, Place, at, cell, spot?, place?, put, wr, nameOf, rank, ownTy, prisTy, nameE, ownE, prisE, nameC, ownC, structOf, modeAt, fieldAt, Stable, Dead, Obj, Part, Conf, Saved, EntryOK, CellOK, Inv, name, own, pris, Has}
-use Rattle.safety.specs.Fields.{zeroed, stored, tentative, gone, fixed, Flows, tyOf, valOf, spent}
-use Rattle.safety.proofs.Update.{put-at, put-off, at-inj, not-both, wr-at, wr-off}
-use Rattle.safety.proofs.Places.{Unique, Sole, Sub}
-use Rattle.safety.proofs.Frame.{Grows, KeepA, KeepO, KeepP, conf-frame, saved-frame, entry-frame, cell-frame}
-use Rattle.safety.proofs.Write.{wr-grows, wr-dead, wr-mark, Written, write}
-use Rattle.safety.proofs.Flow.{has-none, flow, flow-rank, flow-lent, own-zero, pris-zero, pris-low, own-low, own-high, name-ref, RefVal, word-name, conf-ref, conf-high, null-conf, null-entry, load-conf, store-points, store-whole}
-use Rattle.safety.proofs.New.{own-zeroed, name-zeroed, zero-cell, own-name, pris-own-e, own-name-e}
+use Rattle.safety.specs.Model.{alias, owned, Claim, pt, Content, fnum, falias, fowned, Structs, Cell, Heap, Slots, Spot, Entry, here, Place, at, cell, put, wr, nameOf, ownTy, prisTy, nameE, ownE, prisE, nameC, ownC, structOf, modeAt, fieldAt, Stable, Dead, Conf, Saved, EntryOK, CellOK, Inv, name, own, pris}
+use Rattle.safety.specs.Fields.{zeroed, stored, Flows, tyOf, valOf, spent}
+use Rattle.safety.proofs.Update.{put-at, at-inj, not-both, wr-at}
+use Rattle.safety.proofs.Places.{Sub}
+use Rattle.safety.proofs.Frame.{Grows, KeepA, KeepO, KeepP, conf-frame, saved-frame, entry-frame}
+use Rattle.safety.proofs.Write.{wr-grows, wr-dead, wr-mark, write}
+use Rattle.safety.proofs.Flow.{flow, flow-rank, flow-lent, own-zero, pris-zero, pris-low, own-high, name-ref, word-name, conf-ref, null-entry, load-conf, store-points, store-whole}
+use Rattle.safety.proofs.New.{own-zeroed, name-zeroed, zero-cell}
 
 pub not-cell-at : {s : Spot} {o f : ℕ} → cell o f ≡ at s → ⊥
 not-cell-at e = let z : _≡_ {A = ℕ} 0 1 = cc in omega arith

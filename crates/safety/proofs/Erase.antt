@@ -1,14 +1,12 @@
 -- Chains of changes: of slots, and of the memory under the ghost flags.
-use mathlib.Core.Path.{_≡_, refl, sym, ap, ap₂, subst, _∙_, fun-ext}
-use mathlib.Core.Bool.{Bool, true, false}
-use mathlib.Core.List.{List, [], _∷_}
-use mathlib.Core.Logic.{_⊎_, inl, inr}
-use Prim.Native.Nat.{ℕ, suc, zero, _<_, _≤_}
+use mathlib.Core.Path.{_≡_, refl, sym, ap, _∙_, fun-ext}
+use mathlib.Core.Bool.{Bool}
+use Prim.Native.Nat.{ℕ}
 use native.Mathlib.Decide.{ℕ-discrete}
-use Rattle.safety.specs.Model.{Cell, Heap, Slots, Spot, Entry, out, here, Place, at, cell, spot?, place?, put, wr, choose}
+use Rattle.safety.specs.Model.{Cell, Heap, Slots, Spot, Entry, out, cell, place?, put, wr, choose}
 use Rattle.safety.specs.Fields.{zeroed, grow}
 use Rattle.safety.specs.Step.{Mem, poke, added, erase}
-use Rattle.safety.proofs.Update.{put-at, put-off, wr-at, wr-off, choose-yes, choose-no}
+use Rattle.safety.proofs.Update.{put-at, put-off, wr-at, wr-off}
 use Rattle.safety.proofs.Scope.{put-ind}
 
 pub put-put : (σ : Slots) (z : Spot) (a b : Entry) → put (put σ z a) z b ≡ put σ z b

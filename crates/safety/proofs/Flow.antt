@@ -1,17 +1,14 @@
 -- Flow, and what a cell's content and a stored value have.
-use mathlib.Core.Path.{_≡_, refl, sym, ap, subst, _∙_}
-use mathlib.Core.Bool.{Bool, true, false}
+use mathlib.Core.Path.{_≡_, refl, sym, _∙_}
+use mathlib.Core.Bool.{false}
 use mathlib.Core.List.{List, [], _∷_}
-use mathlib.Core.Logic.{_⊎_, inl, inr}
-use Prim.Native.Nat.{ℕ, suc, zero, _<_, _≤_, _/_, _%_, _^_}
+use Prim.Native.Nat.{ℕ, suc, zero, _<_, _≤_, _/_, _^_}
 use native.Mathlib.Omega.{arith}
-use Rattle.table.specs.declared.types.Mode.the-variants.{Var, Val, Once, Spec}
 use Rattle.machine.specs.declared.threads.Slot.{Slot}
 use Rattle.machine.specs.declared.threads.Slot.the-variants.{Empty, Null, Number, Reference}
 use Rattle.machine.specs.Values.{reference-of, word-of}
-use Rattle.safety.specs.Model.{Right, alias, owned, pristine, Claim, num, pt, Content, fnum, falias, fowned, Structs, Cell, Heap, Slots, Spot, Entry, out, here, nameOf, rank, ownTy, prisTy, nameE, ownE, prisE, nameC, ownC, structOf, modeAt, fieldAt, Stable, Dead, Obj, Part, Conf, Saved, EntryOK, CellOK, Has}
-use Rattle.safety.specs.Fields.{Within, Flows, FlowK, tyOf, lent, valOf, spent}
-use Rattle.safety.proofs.Update.{not-both}
+use Rattle.safety.specs.Model.{Right, alias, owned, pristine, Claim, num, pt, Content, fnum, falias, fowned, Structs, Cell, Heap, here, nameOf, rank, ownTy, prisTy, nameC, ownC, structOf, fieldAt, Stable, Dead, Part, Conf, Saved, EntryOK, CellOK, Has}
+use Rattle.safety.specs.Fields.{Flows, FlowK, tyOf, lent, valOf}
 
 pub has-none : (f : ℕ) → Has 0 f → ⊥
 has-none f h = let e : (0 / 2 ^ f) ≡ 0 = omega arith in omega arith

@@ -1,14 +1,14 @@
 -- What a value, a saved type and a cell keep while the heap goes on.
-use mathlib.Core.Path.{_≡_, refl, sym, ap, subst, _∙_}
-use mathlib.Core.Bool.{Bool, true, false}
+use mathlib.Core.Path.{_≡_, refl, sym, ap, _∙_}
+use mathlib.Core.Bool.{true, false}
 use mathlib.Core.List.{List, [], _∷_}
 use mathlib.Core.Logic.{_⊎_, inl, inr}
-use Prim.Native.Nat.{ℕ, suc, zero, _<_, _≤_}
+use Prim.Native.Nat.{ℕ, suc, _<_, _≤_}
 use native.Mathlib.Omega.{arith}
-use Rattle.table.specs.declared.types.Mode.the-variants.{Var, Val, Once, Spec}
+use Rattle.table.specs.declared.types.Mode.the-variants.{Once}
 use Rattle.machine.specs.declared.threads.Slot.{Slot}
 use Rattle.machine.specs.declared.threads.Slot.the-variants.{Empty, Null, Number, Reference}
-use Rattle.safety.specs.Model.{Right, alias, owned, pristine, Claim, num, pt, Structs, Cell, Heap, Slots, Spot, Entry, out, here, nameOf, rank, ownTy, prisTy, nameE, ownE, prisE, nameC, ownC, structOf, modeAt, fieldAt, Stable, Dead, Obj, Part, Conf, Saved, EntryOK, CellOK, Has}
+use Rattle.safety.specs.Model.{Right, alias, owned, pristine, Claim, num, pt, Structs, Cell, Heap, Entry, out, here, nameOf, rank, ownTy, prisTy, nameE, ownE, prisE, nameC, ownC, structOf, modeAt, fieldAt, Stable, Dead, Part, Conf, Saved, EntryOK, CellOK}
 
 pub rank-own : (u t : Claim) (n p : ℕ) → rank u ≤ rank t → ownTy u n ≡ suc p → ownTy t n ≡ suc p
 rank-own num t n p h e = omega arith

@@ -1,17 +1,13 @@
 -- Calls, forks, returns and again.
 use mathlib.Core.Path.{_≡_, refl, sym, ap, subst, _∙_, fun-ext}
-use mathlib.Core.Bool.{Bool, true, false}
 use mathlib.Core.List.{List, [], _∷_}
-use mathlib.Core.Logic.{_⊎_, inl, inr}
-use Prim.Native.Nat.{ℕ, suc, zero, _<_, _≤_}
+use Prim.Native.Nat.{ℕ, suc}
 use native.Mathlib.Omega.{arith}
 use Rattle.machine.specs.declared.threads.Slot.{Slot}
-use Rattle.machine.specs.declared.threads.Slot.the-variants.{Empty, Null, Number, Reference}
-use Rattle.safety.specs.Model.{Right, alias, owned, pristine, Claim, num, pt, Structs, Heap, Slots, Spot, Entry, out, here, Place, at, cell, put, rank, name, own, pris, Inv}
+use Rattle.safety.specs.Model.{alias, owned, pristine, Claim, num, pt, Structs, Heap, Slots, Spot, Entry, here, Place, at, cell, put, name, own, Inv}
 use Rattle.safety.specs.Fields.{Flows}
 use Rattle.safety.specs.Frames.{Arg, kept, leave, arrive, passed, passedAll, Ready, Later, AllReady}
-use Rattle.safety.proofs.Update.{put-at, put-off, at-inj}
-use Rattle.safety.proofs.Erase.{put-back}
+use Rattle.safety.proofs.Update.{put-off, at-inj}
 use Rattle.safety.proofs.Scope.{put-ind}
 use Rattle.safety.proofs.Ops.{do-give, do-lend}
 

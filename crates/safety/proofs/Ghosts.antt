@@ -1,23 +1,23 @@
 -- The changes of one cell that leave it, or take it, dead; and the mark.
 use mathlib.Core.Path.{_≡_, refl, sym, ap, subst, _∙_}
-use mathlib.Core.Bool.{Bool, true, false}
+use mathlib.Core.Bool.{true, false}
 use mathlib.Core.List.{List, [], _∷_}
 use mathlib.Core.Logic.{_⊎_, inl, inr}
 use Prim.Native.Nat.{ℕ, suc, zero, _<_, _≤_}
 use native.Mathlib.Omega.{arith}
 use Rattle.table.specs.declared.types.Mode.the-variants.{Var, Val, Once, Spec}
 use Rattle.machine.specs.declared.threads.Slot.{Slot}
-use Rattle.machine.specs.declared.threads.Slot.the-variants.{Empty, Null, Number, Reference}
-use Rattle.machine.specs.Values.{reference-of, word-of}
-use Rattle.safety.specs.Model.{Right, alias, owned, pristine, Claim, num, pt, Content, fnum, falias, fowned, Structs, Cell, Heap, Slots, Spot, Entry, out, here, Place, at, cell, spot?, place?, put, wr, nameOf, rank, ownTy, prisTy, nameE, ownE, prisE, nameC, ownC, structOf, modeAt, fieldAt, Stable, Dead, Obj, Part, Conf, Saved, EntryOK, CellOK, Inv, name, own, pris, Has}
-use Rattle.safety.specs.Fields.{zeroed, stored, tentative, gone, fixed, Flows, tyOf, valOf, spent}
-use Rattle.safety.proofs.Update.{put-at, put-off, at-inj, not-both, wr-at, wr-off}
-use Rattle.safety.proofs.Places.{Unique, Sole, Sub}
-use Rattle.safety.proofs.Frame.{Grows, KeepA, KeepO, KeepP, conf-frame, saved-frame, entry-frame, cell-frame}
-use Rattle.safety.proofs.Write.{wr-grows, wr-dead, wr-mark, Written, write}
-use Rattle.safety.proofs.Flow.{has-none, flow, flow-rank, flow-lent, own-zero, pris-zero, pris-low, own-low, own-high, name-ref, RefVal, word-name, conf-ref, conf-high, null-conf, null-entry, load-conf, store-points, store-whole}
-use Rattle.safety.proofs.New.{own-zeroed, name-zeroed, zero-cell, own-name, pris-own-e, own-name-e}
-use Rattle.safety.proofs.Cells.{calm, name-val, not-cell-at}
+use Rattle.machine.specs.declared.threads.Slot.the-variants.{Null, Reference}
+use Rattle.machine.specs.Values.{reference-of}
+use Rattle.safety.specs.Model.{alias, owned, pristine, Claim, pt, Content, fnum, falias, fowned, Structs, Cell, Heap, Slots, Spot, Entry, here, Place, at, cell, put, wr, rank, ownTy, prisTy, nameE, ownE, prisE, nameC, ownC, structOf, modeAt, fieldAt, Stable, Dead, Conf, Saved, EntryOK, CellOK, Inv, name, own, pris, Has}
+use Rattle.safety.specs.Fields.{tentative, gone, fixed}
+use Rattle.safety.proofs.Update.{put-at, at-inj, not-both, wr-at}
+use Rattle.safety.proofs.Places.{Sub}
+use Rattle.safety.proofs.Frame.{Grows, KeepA, KeepO, KeepP, conf-frame, saved-frame}
+use Rattle.safety.proofs.Write.{wr-grows, wr-dead, wr-mark, write}
+use Rattle.safety.proofs.Flow.{has-none, pris-low, own-low, name-ref, word-name, conf-ref, null-entry, store-points}
+use Rattle.safety.proofs.New.{own-name}
+use Rattle.safety.proofs.Cells.{not-cell-at}
 
 own-tentative : (T : Content) (v : Slot) → ownC T (tentative v) ≡ 0
 own-tentative fnum v = refl
@@ -112,7 +112,7 @@ module _ (St : Structs) where
         cell-ok =
           let e-c = wr-at H q g (gone (H .mem q g)) in
           let same : nameC (fieldAt St H q g) (wr H q g (gone (H .mem q g)) .mem q g) ≡ nameC (fieldAt St H q g) (H .mem q g) = ap (λ (c : Cell). nameC (fieldAt St H q g) c) e-c ∙ name-gone (fieldAt St H q g) (H .mem q g) in
-          let no-frame : ownC (fieldAt St H q g) (wr H q g (gone (H .mem q g)) .mem q g) ≡ 0 = ap (λ (c : Cell). ownC (fieldAt St H q g) c) e-c ∙ own-gone (fieldAt St H q g) (H .mem q g) in
+          let gone-owns : ownC (fieldAt St H q g) (wr H q g (gone (H .mem q g)) .mem q g) ≡ 0 = ap (λ (c : Cell). ownC (fieldAt St H q g) c) e-c ∙ own-gone (fieldAt St H q g) (H .mem q g) in
           let m : wr H q g (gone (H .mem q g)) .mem q g .mark ≡ H .mem q g .mark = ap (λ (c : Cell). c .mark) e-c in
           let wd : wr H q g (gone (H .mem q g)) .mem q g .word ≡ H .mem q g .word = ap (λ (c : Cell). c .word) e-c in
           record {

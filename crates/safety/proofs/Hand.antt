@@ -1,32 +1,28 @@
 -- The hand-offs: set, swap, try, fix, link and unlink keep the invariant.
 use mathlib.Core.Path.{_≡_, refl, sym, ap, ap₂, subst, subst₂, _∙_}
-use mathlib.Core.Bool.{Bool, true, false}
+use mathlib.Core.Bool.{true, false}
 use mathlib.Core.List.{List, [], _∷_}
 use mathlib.Core.Logic.{_⊎_, inl, inr}
-use Prim.Native.Nat.{ℕ, suc, zero, _<_, _≤_}
+use Prim.Native.Nat.{ℕ, suc, _≤_}
 use native.Mathlib.Omega.{arith}
 use Rattle.table.specs.declared.types.Mode.the-variants.{Var, Val, Once, Spec}
 use Rattle.table.specs.declared.types.Mode.{Mode}
 use Rattle.machine.specs.declared.threads.Slot.{Slot}
-use Rattle.machine.specs.declared.threads.Slot.the-variants.{Empty, Null, Number, Reference}
+use Rattle.machine.specs.declared.threads.Slot.the-variants.{Null, Reference}
 use Rattle.machine.specs.Values.{reference-of, word-of}
-use Rattle.safety.specs.Model.{Right, alias, owned, pristine, Claim, num, pt, Content, fnum, falias, fowned, Structs, Cell, Heap, Slots, Spot, Entry, out, here, Place, at, cell, spot?, place?, put, wr, nameOf, rank, ownTy, prisTy, nameE, ownE, prisE, nameC, ownC, structOf, modeAt, fieldAt, Stable, Dead, Obj, Part, Conf, Saved, EntryOK, CellOK, Inv, name, own, pris, Has}
-use Rattle.safety.specs.Fields.{zeroed, stored, tentative, gone, fixed, Flows, tyOf, valOf, spent, Within, With, Without, Alone, FlowK, lent, grow}
-use Rattle.safety.specs.Step.{Mem, poke, added, erase, shared, Writable, RefTo, Plain, Falls, ends, stays, pops, Sound}
+use Rattle.safety.specs.Model.{Right, alias, owned, pristine, Claim, pt, Content, fnum, falias, fowned, Structs, Cell, Heap, Slots, Spot, Entry, out, here, at, cell, put, wr, rank, ownTy, prisTy, nameE, ownE, prisE, modeAt, fieldAt, Stable, Dead, Part, Conf, Saved, EntryOK, Inv, pris, Has}
+use Rattle.safety.specs.Fields.{zeroed, stored, tentative, gone, fixed, Flows, tyOf, valOf, spent, With, Without, Alone, lent}
+use Rattle.safety.specs.Step.{poke, erase, Writable, RefTo, Plain, stays, Sound}
 use Rattle.safety.proofs.Update.{put-at, put-off, at-inj, not-both, wr-at, wr-off}
-use Rattle.safety.proofs.Places.{Unique, Sole, Sub}
-use Rattle.safety.proofs.Frame.{Grows, KeepA, KeepO, KeepP, conf-frame, saved-frame, entry-frame, cell-frame}
-use Rattle.safety.proofs.Write.{wr-grows, wr-dead, wr-mark, Written, write}
-use Rattle.safety.proofs.Flow.{has-none, flow, flow-rank, flow-lent, own-zero, pris-zero, pris-low, own-low, own-high, name-ref, RefVal, word-name, conf-ref, conf-high, null-conf, null-entry, load-conf, store-points, store-whole}
-use Rattle.safety.proofs.New.{own-zeroed, name-zeroed, zero-cell, own-name, pris-own-e, own-name-e}
-use Rattle.safety.proofs.Cells.{calm, name-val, not-cell-at}
-use Rattle.safety.proofs.Erase.{put-put, put-back, put-spare, Off, off, off-wr, off-ghost, erase-wr, erase-grow}
-use Rattle.safety.proofs.Scope.{lessen, retype, bind, move}
-use Rattle.safety.proofs.New.{new, low}
-use Rattle.safety.proofs.Flow.{read-conf}
+use Rattle.safety.proofs.Frame.{Grows, entry-frame}
+use Rattle.safety.proofs.Write.{wr-grows}
+use Rattle.safety.proofs.Flow.{has-none, pris-low, conf-ref, null-entry}
+use Rattle.safety.proofs.Erase.{put-put, put-spare, Off, off, off-wr, off-ghost, erase-wr}
+use Rattle.safety.proofs.Scope.{retype, move}
+use Rattle.safety.proofs.New.{low}
 use Rattle.safety.proofs.Cells.{claim, store}
 use Rattle.safety.proofs.Ghosts.{extract, lend, fix, fix-grows, fix-dead}
-use Rattle.safety.proofs.Ops.{var-once, var-spec, val-spec, val-once, spec-once, off-true, val-back, word-ref, plain-rank, at-slot, var-unmarked, var-live, do-get}
+use Rattle.safety.proofs.Ops.{var-once, val-spec, val-once, spec-once, off-true, val-back, word-ref, plain-rank, at-slot, var-unmarked, do-get}
 
 
 
@@ -91,7 +87,7 @@ module _ (St : Structs) where
     let G : Grows St H (wr H p f (fixed (H .mem p f))) = fix-grows St σ H x (here (Reference p) (pt k s u′) (pt k s u ∷ xs)) p f inv (inr md) seen in
     let dd : (o g : ℕ) → Dead St (wr H p f (fixed (H .mem p f))) o g → Dead St H o g = fix-dead St σ H x (here (Reference p) (pt k s u′) (pt k s u ∷ xs)) p f inv (inr md) seen in
     let ok : EntryOK St (wr H p f (fixed (H .mem p f))) (here (Reference p) (pt k s u) xs) = entry-frame St H (wr H p f (fixed (H .mem p f))) G (here (Reference p) (pt k s u) xs) (at-slot St σ H x (here (Reference p) (pt k s u) xs) inv ex)
-         (λ o e g d. inl (dd o g d)) (λ o e g d. dd o g d) (λ o e g d. absurd (no-frame e)) in
+         (λ o e g d. inl (dd o g d)) (λ o e g d. dd o g d) (λ o e g d. absurd (no-pristine e)) in
     let st : Stable St (wr H p f (fixed (H .mem p f))) p f = inr (ap (λ (c : Cell). c .mark) (wr-at H p f (fixed (H .mem p f)))) in
     (wr H p f (fixed (H .mem p f)),
      fix St σ H x (here (Reference p) (pt k s u′) (pt k s u ∷ xs)) p f inv (inr md) seen
@@ -99,8 +95,8 @@ module _ (St : Structs) where
        (inr (same-own k s u′ s u (suc p) ∙ ap ownE (sym ex))) (inr (same-pris k s u′ s u (suc p) ∙ ap prisE (sym ex))) (inr (ap nameE (sym ex))),
      erase-wr H (erase H) p f (fixed (H .mem p f)) (H .mem p f .word) true (off H p f) refl refl)
     where
-      no-frame : {o : ℕ} → prisTy (pt k s u) (suc p) ≡ suc o → ⊥
-      no-frame {o} e = let l : prisTy (pt k s u) (suc p) ≡ 0 = pris-low (pt k s u) (suc p) (plain-rank k s u h) in omega arith
+      no-pristine : {o : ℕ} → prisTy (pt k s u) (suc p) ≡ suc o → ⊥
+      no-pristine {o} e = let l : prisTy (pt k s u) (suc p) ≡ 0 = pris-low (pt k s u) (suc p) (plain-rank k s u h) in omega arith
 
   pub do-try : (σ : Slots) (H : Heap) (x y : Spot) (p f s u u′ s′ : ℕ) (k : Right) (v : Slot) (xs ys : List Claim) → Inv St σ H → ¬ (x ≡ y) → Plain k
     → σ x ≡ here (Reference p) (pt k s u) xs → σ y ≡ here v (pt pristine s′ 0) ys → modeAt St H p f ≡ Once → fieldAt St H p f ≡ fowned s′ → With u f u′ → H .mem p f .mark ≡ false

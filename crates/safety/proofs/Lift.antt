@@ -1,22 +1,19 @@
 -- A change of a few slots of one frame, and the end of blocks with it: from the flat configuration to threads of frames.
-use mathlib.Core.Path.{_≡_, refl, sym, ap, ap₂, subst, _∙_, fun-ext}
-use mathlib.Core.Bool.{Bool, true, false}
-use mathlib.Core.List.{List, [], _∷_, _++_}
+use mathlib.Core.Path.{_≡_, refl, sym, ap, ap₂, subst, _∙_}
+use mathlib.Core.Bool.{false}
+use mathlib.Core.List.{List, [], _∷_}
 use mathlib.Core.Logic.{_⊎_, inl, inr}
-use Prim.Native.Nat.{ℕ, suc, zero, _<_, _≤_}
-use native.Mathlib.Omega.{arith}
+use Prim.Native.Nat.{ℕ, suc, zero, _<_}
 use native.Mathlib.Decide.{ℕ-discrete}
 use lib.ListN.{getD, set, length}
-use Rattle.table.specs.declared.types.Mode.{Mode}
-use Rattle.table.specs.declared.types.Mode.the-variants.{Var, Val, Once, Spec}
+use Rattle.table.specs.declared.types.Mode.the-variants.{Spec}
 use Rattle.machine.specs.declared.threads.Slot.{Slot}
-use Rattle.machine.specs.declared.threads.Slot.the-variants.{Empty, Null, Number, Reference}
+use Rattle.machine.specs.declared.threads.Slot.the-variants.{Reference}
 use Rattle.machine.specs.Values.{word-of}
 use Rattle.machine.specs.declared.threads.Frame.{Frame}
-use Rattle.machine.specs.World.{no-frame}
-use Rattle.safety.specs.Model.{Right, alias, owned, pristine, Claim, num, pt, Content, Structs, Spot, spot, Slots, Entry, out, here, spot?, put, Heap, Inv, rank}
+use Rattle.safety.specs.Model.{Right, alias, Claim, pt, Content, Structs, Spot, spot, Slots, Entry, out, here, put}
 use Rattle.safety.specs.Fields.{Flows, tyOf, spent}
-use Rattle.safety.specs.Step.{Mem, poke, Sound, Step, Falls, ends, stays, pops, RefTo, Plain, modeOf, fieldOf, do-swap}
+use Rattle.safety.specs.Step.{Mem, poke, Sound, Falls, ends, stays, pops, RefTo, Plain, modeOf, fieldOf, do-swap}
 use Rattle.safety.specs.Threads.{Scopes, typed, entryAt, frameAt, putFrame, flat, Suffix, FallsSc}
 use Rattle.safety.proofs.Scope.{put-ind}
 use Rattle.safety.proofs.Ops as O

@@ -1,14 +1,14 @@
 -- The sets of fields as masks: one bit, a bit put in, a bit taken out.
 use mathlib.Core.Path.{_≡_, refl, sym, ap, ap₂, subst, _∙_}
 use mathlib.Core.Logic.{_⊎_, inl, inr}
-use Prim.Native.Nat.{ℕ, suc, zero, _+_, _-_, _*_, _/_, _%_, _^_, _<_, _≤_}
+use Prim.Native.Nat.{ℕ, suc, zero, _+_, _-_, _*_, _/_, _%_, _^_, _<_}
 use native.Mathlib.Omega.{arith}
 use native.Mathlib.Nat.{div-eq-of-lt, div-self, mul-div-cancel, mod-lt}
-use lib.Bits.{bitAnd, bitOr, bitXor, or-shr, or-mod, xor-shr, xor-mod, shifted-even}
+use lib.Bits.{bitOr, bitXor, or-shr, or-mod, xor-shr, xor-mod, shifted-even}
 use lib.Pow.{pow-pos, pow-lt, pow-add}
 use Rattle.std.proofs.shelf.Tests.{cases-order}
 use Rattle.safety.specs.Model.{Has}
-use Rattle.safety.specs.Fields.{Within, With, Without, Alone}
+use Rattle.safety.specs.Fields.{With, Without, Alone}
 
 bit : ℕ → ℕ → ℕ
 bit w f = (w / 2 ^ f) % 2

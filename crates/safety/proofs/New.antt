@@ -1,19 +1,18 @@
 -- A new object, with one pristine slot for its only name.
-use mathlib.Core.Path.{_≡_, refl, sym, ap, ap₂, subst, subst₂, _∙_}
+use mathlib.Core.Path.{_≡_, refl, sym, ap, ap₂, subst₂, _∙_}
 use mathlib.Core.Bool.{Bool, true, false}
-use mathlib.Core.List.{List, [], _∷_}
 use mathlib.Core.Logic.{_⊎_, inl, inr}
-use Prim.Native.Nat.{ℕ, suc, zero, _<_, _≤_}
+use Prim.Native.Nat.{ℕ, suc, _<_}
 use native.Mathlib.Omega.{arith}
 use native.Mathlib.Decide.{ℕ-discrete}
-use Rattle.table.specs.declared.types.Mode.the-variants.{Var, Val, Once, Spec}
+use Rattle.table.specs.declared.types.Mode.the-variants.{Val}
 use Rattle.machine.specs.declared.threads.Slot.{Slot}
 use Rattle.machine.specs.declared.threads.Slot.the-variants.{Empty, Null, Number, Reference}
-use Rattle.safety.specs.Model.{Right, alias, owned, pristine, Claim, num, pt, Content, fnum, falias, fowned, Structs, Cell, Heap, Slots, Spot, Entry, out, here, Place, at, cell, spot?, place?, put, wr, choose, nameOf, rank, ownTy, prisTy, nameE, ownE, prisE, nameC, ownC, structOf, modeAt, fieldAt, Stable, Dead, Obj, Part, Conf, Saved, EntryOK, CellOK, Inv, name, own, pris}
+use Rattle.safety.specs.Model.{alias, owned, pristine, Claim, num, pt, Content, fnum, falias, fowned, Structs, Cell, Heap, Slots, Spot, Entry, out, here, Place, at, cell, put, nameOf, ownTy, prisTy, nameE, ownE, prisE, nameC, ownC, fieldAt, Dead, Conf, EntryOK, CellOK, Inv, name, own, pris}
 use Rattle.safety.specs.Fields.{zeroed, grow, first}
-use Rattle.safety.proofs.Update.{put-at, put-off, at-inj, not-both, choose-yes, choose-no}
-use Rattle.safety.proofs.Places.{Unique, Sole, Sub, unique-new, sole-new}
-use Rattle.safety.proofs.Frame.{Grows, KeepA, KeepO, KeepP, entry-frame, cell-frame}
+use Rattle.safety.proofs.Update.{put-at, put-off, not-both, choose-yes, choose-no}
+use Rattle.safety.proofs.Places.{Sub, unique-new, sole-new}
+use Rattle.safety.proofs.Frame.{Grows, entry-frame, cell-frame}
 use Rattle.safety.proofs.Scope.{put-ind}
 
 pub name-zeroed : (T : Content) → nameC T zeroed ≡ 0

@@ -1,31 +1,26 @@
 -- Each step of the machine keeps the invariant.
 use mathlib.Core.Path.{_≡_, refl, sym, ap, subst, _∙_}
 use mathlib.Core.Bool.{Bool, true, false}
-use mathlib.Core.List.{List, [], _∷_}
-use mathlib.Core.Logic.{_⊎_, inl, inr}
-use Prim.Native.Nat.{ℕ, suc, zero, _<_, _≤_}
+use mathlib.Core.List.{List, []}
+use mathlib.Core.Logic.{inl, inr}
+use Prim.Native.Nat.{ℕ, suc, zero, _≤_}
 use native.Mathlib.Omega.{arith}
 use Rattle.table.specs.declared.types.Mode.the-variants.{Var, Val, Once, Spec}
 use Rattle.table.specs.declared.types.Mode.{Mode}
 use Rattle.machine.specs.declared.threads.Slot.{Slot}
 use Rattle.machine.specs.declared.threads.Slot.the-variants.{Empty, Null, Number, Reference}
 use Rattle.machine.specs.Values.{reference-of, word-of}
-use Rattle.safety.specs.Model.{Right, alias, owned, pristine, Claim, num, pt, Content, fnum, falias, fowned, Structs, Cell, Heap, Slots, Spot, Entry, out, here, Place, at, cell, spot?, place?, put, wr, nameOf, rank, ownTy, prisTy, nameE, ownE, prisE, nameC, ownC, structOf, modeAt, fieldAt, Stable, Dead, Obj, Part, Conf, Saved, EntryOK, CellOK, Inv, name, own, pris, Has}
-use Rattle.safety.specs.Fields.{zeroed, stored, tentative, gone, fixed, Flows, tyOf, valOf, spent, Within, With, Without, Alone, FlowK, lent, grow}
-use Rattle.safety.specs.Step.{Mem, poke, added, erase, shared, Writable, RefTo, Plain, Falls, ends, stays, pops, Sound}
-use Rattle.safety.proofs.Update.{put-at, put-off, at-inj, not-both, wr-at, wr-off}
-use Rattle.safety.proofs.Places.{Unique, Sole, Sub}
-use Rattle.safety.proofs.Frame.{Grows, KeepA, KeepO, KeepP, conf-frame, saved-frame, entry-frame, cell-frame}
-use Rattle.safety.proofs.Write.{wr-grows, wr-dead, wr-mark, Written, write}
-use Rattle.safety.proofs.Flow.{has-none, flow, flow-rank, flow-lent, own-zero, pris-zero, pris-low, own-low, own-high, name-ref, RefVal, word-name, conf-ref, conf-high, null-conf, null-entry, load-conf, store-points, store-whole}
-use Rattle.safety.proofs.New.{own-zeroed, name-zeroed, zero-cell, own-name, pris-own-e, own-name-e}
-use Rattle.safety.proofs.Cells.{calm, name-val, not-cell-at}
-use Rattle.safety.proofs.Erase.{put-put, put-back, put-spare, Off, off, off-wr, off-ghost, erase-wr, erase-grow}
-use Rattle.safety.proofs.Scope.{lessen, retype, bind, move}
-use Rattle.safety.proofs.New.{new, low}
+use Rattle.safety.specs.Model.{Right, alias, owned, pristine, Claim, num, pt, Content, fnum, falias, fowned, Structs, Heap, Slots, Spot, Entry, here, at, cell, put, wr, nameOf, rank, ownTy, prisTy, nameE, ownE, prisE, modeAt, fieldAt, EntryOK, Inv}
+use Rattle.safety.specs.Fields.{zeroed, Flows, tyOf, valOf, lent}
+use Rattle.safety.specs.Step.{poke, erase, shared, Plain, Falls, ends, stays, pops, Sound}
+use Rattle.safety.proofs.Update.{at-inj}
+use Rattle.safety.proofs.Places.{Sub}
+use Rattle.safety.proofs.Flow.{flow, flow-rank, flow-lent, pris-low, own-low, own-high, RefVal}
+use Rattle.safety.proofs.Cells.{name-val, not-cell-at}
+use Rattle.safety.proofs.Erase.{off, erase-wr}
+use Rattle.safety.proofs.Scope.{lessen, bind, move}
 use Rattle.safety.proofs.Flow.{read-conf}
-use Rattle.safety.proofs.Cells.{claim, store}
-use Rattle.safety.proofs.Ghosts.{extract, lend, fix}
+use Rattle.safety.proofs.Cells.{claim}
 
 
 never : {A : Type 0} (a b : Mode) → a ≡ b → ¬ (a ≡ b) → A

@@ -1,9 +1,9 @@
 -- At most one place owns, and a pristine slot is the only name: what keeps that, over places and numbers alone (o + 1 for the object o, and 0 for none).
 use mathlib.Core.Path.{_≡_, refl, sym, ap, subst, _∙_}
 use mathlib.Core.Logic.{_⊎_, inl, inr}
-use Prim.Native.Nat.{ℕ, suc, zero, _<_, _≤_}
+use Prim.Native.Nat.{ℕ, suc}
 use native.Mathlib.Omega.{arith}
-use Rattle.safety.specs.Model.{Spot, Place, at, cell, spot?, place?}
+use Rattle.safety.specs.Model.{Spot, Place, at, spot?, place?}
 use Rattle.safety.proofs.Update.{at-inj}
 
 abbrev pub Unique : (Place → ℕ) → Type 0

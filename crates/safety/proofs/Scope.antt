@@ -1,17 +1,15 @@
 -- Changes of slots alone: a binding, a move, the end of a scope, another type.
 use mathlib.Core.Path.{_≡_, refl, sym, ap, subst, _∙_}
-use mathlib.Core.Bool.{Bool, true, false}
-use mathlib.Core.List.{List, [], _∷_}
+use mathlib.Core.List.{List, []}
 use mathlib.Core.Logic.{_⊎_, inl, inr}
-use Prim.Native.Nat.{ℕ, suc, zero, _<_, _≤_}
+use Prim.Native.Nat.{ℕ, _≤_}
 use native.Mathlib.Omega.{arith}
 use Rattle.machine.specs.declared.threads.Slot.{Slot}
-use Rattle.machine.specs.declared.threads.Slot.the-variants.{Empty, Null, Number, Reference}
-use Rattle.safety.specs.Model.{Right, alias, owned, pristine, Claim, num, pt, Structs, Cell, Heap, Slots, Spot, Entry, out, here, Place, at, cell, spot?, place?, put, wr, nameOf, rank, ownTy, prisTy, nameE, ownE, prisE, nameC, ownC, structOf, Conf, Saved, EntryOK, CellOK, Inv, name, own, pris}
-use Rattle.safety.proofs.Update.{put-at, put-off, at-inj}
-use Rattle.safety.proofs.Places.{Unique, Sole, Sub, unique-less, unique-swap, sole-gain, sole-move}
-use Rattle.safety.proofs.Frame.{rank-own, rank-pris}
-use Rattle.safety.proofs.Flow.{own-zero, pris-zero, own-high, own-low, pris-low, conf-high, null-entry}
+use Rattle.machine.specs.declared.threads.Slot.the-variants.{Null}
+use Rattle.safety.specs.Model.{alias, owned, pristine, Claim, num, pt, Structs, Heap, Slots, Spot, Entry, here, Place, at, cell, spot?, put, nameOf, rank, prisTy, nameE, ownE, prisE, Conf, EntryOK, Inv, name, own, pris}
+use Rattle.safety.proofs.Update.{put-at, put-off}
+use Rattle.safety.proofs.Places.{Sub, unique-less, unique-swap, sole-gain, sole-move}
+use Rattle.safety.proofs.Flow.{own-zero, pris-zero, own-high, conf-high, null-entry}
 
 pub put-ind : (P : Spot → Entry → Type 0) (σ : Slots) (z : Spot) (e : Entry) → P z e → ((s : Spot) → ¬ (s ≡ z) → P s (σ s)) → (s : Spot) → P s (put σ z e s)
 put-ind P σ z e a b s = go (spot? s z)

@@ -1,18 +1,16 @@
 -- The shapes that a record's effect on its frame has: each from the flat configuration to threads of frames.
-use mathlib.Core.Path.{_≡_, refl, sym, ap, ap₂, subst, _∙_}
+use mathlib.Core.Path.{_≡_, refl, sym, ap, subst, _∙_}
 use mathlib.Core.List.{List, [], _∷_, _++_}
-use mathlib.Core.Logic.{_⊎_, inl, inr}
-use Prim.Native.Nat.{ℕ, suc, zero, _<_, _≤_}
+use Prim.Native.Nat.{ℕ, suc, zero, _<_}
 use native.Mathlib.Omega.{arith}
 use lib.ListN.{getD, set, length}
 use Rattle.std.proofs.shelf.Lists.{length-set}
 use Rattle.machine.specs.declared.threads.Slot.{Slot}
-use Rattle.machine.specs.declared.threads.Slot.the-variants.{Empty, Null, Number, Reference}
+use Rattle.machine.specs.declared.threads.Slot.the-variants.{Empty, Reference}
 use Rattle.machine.specs.declared.threads.Frame.{Frame}
-use Rattle.machine.specs.World.{no-frame}
-use Rattle.safety.specs.Model.{Right, Claim, num, pt, Structs, Spot, spot, Slots, Entry, out, here, put, Heap, Inv, Conf}
-use Rattle.safety.specs.Step.{Mem, Sound, Falls, ends, stays, pops}
-use Rattle.safety.specs.Threads.{Scopes, typed, entryAt, frameAt, putFrame, flat, FallsSc, advance}
+use Rattle.safety.specs.Model.{Right, Claim, pt, Structs, Spot, spot, Slots, Entry, here, put}
+use Rattle.safety.specs.Step.{Mem, Sound, Falls}
+use Rattle.safety.specs.Threads.{Scopes, typed, entryAt, frameAt, flat, FallsSc, advance}
 use Rattle.safety.proofs.Threads.{entry-bind, entry-bind-off, entry-val, entry-val-off, entry-push, entry-push-off}
 use Rattle.safety.proofs.Lift.{entry-falls, lift₁, lift₂, lift₃}
 use Rattle.safety.proofs.Ops.{at-slot}

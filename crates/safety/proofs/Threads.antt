@@ -1,21 +1,17 @@
 -- From threads of frames to the flat configuration: one frame's change is a change of a few slots.
-use mathlib.Core.Path.{_≡_, refl, sym, ap, ap₂, subst, _∙_, fun-ext}
-use mathlib.Core.Bool.{Bool, true, false}
+use mathlib.Core.Path.{_≡_, refl, sym, ap, subst, _∙_, fun-ext}
 use mathlib.Core.List.{List, [], _∷_, _++_}
-use mathlib.Core.Logic.{_⊎_, inl, inr}
 use Prim.Native.Nat.{ℕ, suc, zero, _<_, _≤_}
 use native.Mathlib.Omega.{arith}
 use native.Mathlib.Decide.{ℕ-discrete}
 use lib.ListN.{getD, set, length}
 use Rattle.std.proofs.shelf.Lists.{getD-set-same, getD-set-other}
 use Rattle.machine.specs.declared.threads.Slot.{Slot}
-use Rattle.machine.specs.declared.threads.Slot.the-variants.{Empty, Null, Number, Reference}
 use Rattle.machine.specs.declared.threads.Frame.{Frame}
 use Rattle.machine.specs.World.{no-frame}
-use Rattle.safety.specs.Model.{Claim, num, pt, Structs, Spot, spot, Slots, Entry, out, here, spot?, put, Heap, Inv, rank}
-use Rattle.safety.specs.Step.{Mem, poke, shared, Sound, Step, do-share}
-use Rattle.safety.specs.Threads.{Scopes, typed, entryAt, frameAt, putFrame, flat}
-use Rattle.safety.proofs.Update.{put-at, put-off}
+use Rattle.safety.specs.Model.{Claim, Structs, Spot, spot, Slots, Entry, out, here, put, rank}
+use Rattle.safety.specs.Step.{Mem, shared, Sound, do-share}
+use Rattle.safety.specs.Threads.{Scopes, entryAt, frameAt, putFrame, flat}
 use Rattle.safety.proofs.Scope.{put-ind}
 use Rattle.safety.proofs.Keeps.{keeps}
 

@@ -1,29 +1,27 @@
 -- Every record that the rules allow keeps the invariant, on threads of frames.
 use mathlib.Core.Path.{_≡_, refl, sym, ap, ap₂, subst, _∙_}
-use mathlib.Core.Bool.{Bool, true, false}
-use mathlib.Core.List.{List, [], _∷_, _++_}
-use mathlib.Core.Logic.{_⊎_, inl, inr}
+use mathlib.Core.Bool.{true, false}
+use mathlib.Core.List.{List, [], _∷_}
+use mathlib.Core.Logic.{inl, inr}
 use Prim.Native.Nat.{ℕ, suc, zero, _<_, _≤_}
 use native.Mathlib.Omega.{arith}
 use lib.ListN.{getD, set, length, replicate}
 use Rattle.table.specs.declared.types.Mode.{Mode}
-use Rattle.table.specs.declared.types.Mode.the-variants.{Var, Val, Once, Spec}
 use Rattle.machine.specs.declared.threads.Slot.{Slot}
 use Rattle.machine.specs.declared.threads.Slot.the-variants.{Empty, Null, Number, Reference}
 use Rattle.machine.specs.Values.{word-of}
 use Rattle.machine.specs.declared.threads.Frame.{Frame}
-use Rattle.machine.specs.World.{no-frame}
-use Rattle.safety.specs.Model.{Right, alias, owned, pristine, Claim, num, pt, Content, fnum, falias, fowned, Structs, Has, Spot, spot, Slots, Entry, out, here, put, rank, Heap, Inv}
-use Rattle.safety.specs.Fields.{With, Without, Alone, Flows, tyOf, lent, valOf, spent}
-use Rattle.safety.specs.Step.{Mem, poke, added, shared, Writable, RefTo, Plain, Sound, Step, Falls, ends, stays, modeOf, fieldOf, do-int, do-null, do-new, do-share, do-get, do-give, do-take, do-set, do-tentative, do-swap, do-unlink, do-unlink-alias, do-link, do-try, do-fix, do-stable}
-use Rattle.safety.specs.Frames.{Arg, Ready, Later, AllReady}
-use Rattle.safety.specs.Threads.{Scopes, entryAt, frameAt, flat, FallsSc, advance}
-use Rattle.safety.specs.Calls.{argsTo, spendVals, givenVals, paramScope, IsFrame}
-use Rattle.safety.specs.Kept.{blank, void, Kept}
-use Rattle.safety.specs.Typed.{NotIn, Given, AllGiven, scope, fresh, vals, Slotted, Next, Bound, Pushed, Active, Typed, started, Runs, start, step, Safety, t-stay, t-number, t-null, t-new, t-share, t-own, t-get, t-take, t-set, t-tentative, t-swap, t-unlink, t-unlink-alias, t-link, t-try, t-fix, t-stable, t-call, t-return, t-end, t-again}
+use Rattle.safety.specs.Model.{Right, alias, owned, pristine, Claim, num, pt, Content, Structs, Spot, spot, Slots, Entry, out, here, put}
+use Rattle.safety.specs.Fields.{Flows, tyOf, lent, valOf, spent}
+use Rattle.safety.specs.Step.{Mem, poke, added, shared, Writable, RefTo, Sound, Step, Falls, ends, stays, modeOf, fieldOf, do-int, do-null, do-new, do-share, do-get, do-give, do-take, do-set, do-tentative, do-swap, do-unlink, do-unlink-alias, do-link, do-try, do-fix, do-stable}
+use Rattle.safety.specs.Frames.{Later, AllReady}
+use Rattle.safety.specs.Threads.{Scopes, entryAt, frameAt, flat}
+use Rattle.safety.specs.Calls.{argsTo, IsFrame}
+use Rattle.safety.specs.Kept.{blank, void}
+use Rattle.safety.specs.Typed.{NotIn, AllGiven, scope, fresh, vals, Slotted, Active, Typed, started, t-stay, t-number, t-null, t-new, t-share, t-own, t-get, t-take, t-set, t-tentative, t-swap, t-unlink, t-unlink-alias, t-link, t-try, t-fix, t-stable, t-call, t-return, t-end, t-again}
 use Rattle.safety.proofs.Update.{put-at, put-off}
 use Rattle.safety.proofs.Frames.{put-same}
-use Rattle.safety.proofs.Keeps.{keeps, start-sound, kept-sound}
+use Rattle.safety.proofs.Keeps.{keeps, start-sound}
 use Rattle.safety.proofs.Threads.{put-of₂, put-of₃}
 use Rattle.safety.proofs.Lift.{sound-falls}
 use Rattle.safety.proofs.Calls.{entry-nil, frame?, slot-frame, call-threads, return-threads, again-threads, gone-frame, at-frame}
@@ -197,10 +195,3 @@ module _ (St : Structs) (S : Scopes) where
       all (spot zero zero k) = ap (λ (q : List (List Claim)). entryAt (replicate 16 Empty) q k) e ∙ entry-nil (replicate 16 Empty) k
       all (spot zero (suc b) k) = refl
       all (spot (suc a) b k) = refl
-
-  runs-sound : (M : List (List Frame)) (R : Mem) → Runs St S M R → Sound St (flat S M) R
-  runs-sound M R (start e) = started-sound e
-  runs-sound M R (step {M = M₀} {R = R₀} r i j act t) = typed-keeps St S M₀ R₀ i j act (runs-sound M₀ R₀ r) M R t
-
-pub safety : Safety
-safety St S M R r = kept-sound St (flat S M) R (runs-sound St S M R r)

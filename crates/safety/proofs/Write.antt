@@ -2,16 +2,13 @@
 use mathlib.Core.Path.{_≡_, refl, sym, ap, subst, _∙_}
 use mathlib.Core.Bool.{Bool, true, false}
 use mathlib.Core.Logic.{_⊎_, inl, inr}
-use Prim.Native.Nat.{ℕ, suc, zero, _<_, _≤_}
+use Prim.Native.Nat.{ℕ, suc}
 use native.Mathlib.Omega.{arith}
 use native.Mathlib.Nat.{le-refl}
-use Rattle.table.specs.declared.types.Mode.the-variants.{Var, Val, Once, Spec}
-use Rattle.machine.specs.declared.threads.Slot.{Slot}
-use Rattle.machine.specs.declared.threads.Slot.the-variants.{Empty, Null, Number, Reference}
-use Rattle.safety.specs.Model.{Right, alias, owned, pristine, Claim, num, pt, Structs, Cell, Heap, Slots, Spot, Entry, out, here, Place, at, cell, spot?, place?, put, wr, nameOf, rank, ownTy, prisTy, nameE, ownE, prisE, nameC, ownC, structOf, modeAt, fieldAt, Stable, Dead, Obj, Part, Conf, Saved, EntryOK, CellOK, Inv, name, own, pris, Has}
+use Rattle.safety.specs.Model.{Structs, Cell, Heap, Slots, Spot, Entry, Place, at, cell, spot?, place?, put, wr, nameE, ownE, prisE, nameC, ownC, fieldAt, Stable, Dead, EntryOK, CellOK, Inv, name, own, pris}
 use Rattle.safety.proofs.Update.{put-at, put-off, wr-at, wr-off, cell-inj, at-inj, not-both}
 use Rattle.safety.proofs.Places.{Unique, Sole, Sub, unique-less, unique-swap, sole-gain}
-use Rattle.safety.proofs.Frame.{Grows, KeepA, KeepO, KeepP, conf-frame, saved-frame, entry-frame, cell-frame}
+use Rattle.safety.proofs.Frame.{Grows, KeepA, KeepO, KeepP, entry-frame, cell-frame}
 
 not-at-cell : {s : Spot} {o f : ℕ} → at s ≡ cell o f → ⊥
 not-at-cell e = let z : _≡_ {A = ℕ} 0 1 = cc in omega arith

@@ -1,16 +1,16 @@
 -- One step of the flat machine: each op of the table, as the rules have it, on the slots in scope and the real memory.
-use mathlib.Core.Path.{_≡_, refl}
+use mathlib.Core.Path.{_≡_}
 use mathlib.Core.Bool.{Bool, true, false}
 use mathlib.Core.List.{List, [], _∷_}
-use mathlib.Core.Logic.{_⊎_, inl, inr}
-use Prim.Native.Nat.{ℕ, suc, zero, _<_, _≤_}
+use mathlib.Core.Logic.{_⊎_}
+use Prim.Native.Nat.{ℕ, suc, _≤_}
 use native.Mathlib.Decide.{ℕ-discrete}
 use Rattle.table.specs.declared.types.Mode.{Mode}
 use Rattle.table.specs.declared.types.Mode.the-variants.{Var, Val, Once, Spec}
 use Rattle.machine.specs.declared.threads.Slot.{Slot}
-use Rattle.machine.specs.declared.threads.Slot.the-variants.{Empty, Null, Number, Reference}
-use Rattle.machine.specs.Values.{reference-of, word-of}
-use Rattle.safety.specs.Model.{Right, alias, owned, pristine, Claim, num, pt, Content, fnum, falias, fowned, Structs, Has, Cell, Heap, choose, Spot, Slots, Entry, out, here, cell, place?, put, rank, Inv}
+use Rattle.machine.specs.declared.threads.Slot.the-variants.{Null, Number, Reference}
+use Rattle.machine.specs.Values.{word-of}
+use Rattle.safety.specs.Model.{Right, alias, owned, pristine, Claim, num, pt, Content, fnum, falias, fowned, Structs, Has, Heap, choose, Spot, Slots, Entry, out, here, cell, place?, put, rank, Inv}
 use Rattle.safety.specs.Fields.{With, Without, Alone, Flows, tyOf, lent, valOf, spent}
 
 -- the memory that the machine has
@@ -117,8 +117,3 @@ module _ (St : Structs) where
     do-stable : (x : Spot) (p f : ℕ) (k : Right) (s u u′ : ℕ) (xs : List Claim) → Plain k
       → σ x ≡ here (Reference p) (pt k s u) xs → R .mark p f ≡ true → With u f u′
       → Step σ R (put σ x (here (Reference p) (pt k s u′) (pt k s u ∷ xs))) R
-
-  -- a chain of steps; in each state some slot is out of scope (a machine has more slot numbers than slots)
-  pub data Run : Slots → Mem → Slots → Mem → Type 0 where
-    done : {σ : Slots} {R : Mem} → Run σ R σ R
-    more : {σ σ′ σ″ : Slots} {R R′ R″ : Mem} → Run σ R σ′ R′ → (t : Spot) → σ′ t ≡ out → Step σ′ R′ σ″ R″ → Run σ R σ″ R″

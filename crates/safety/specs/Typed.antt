@@ -1,22 +1,20 @@
 -- A record that the rules allow, taken by the newest frame of a thread: the step of the machine, with what the rules know before it.
-use mathlib.Core.Path.{_≡_, refl}
-use mathlib.Core.Bool.{Bool, true, false}
+use mathlib.Core.Path.{_≡_}
+use mathlib.Core.Bool.{true, false}
 use mathlib.Core.List.{List, [], _∷_, _++_}
-use mathlib.Core.Logic.{_⊎_, inl, inr}
-use Prim.Native.Nat.{ℕ, suc, zero, _<_, _≤_}
+use mathlib.Core.Logic.{_⊎_}
+use Prim.Native.Nat.{ℕ, suc, _<_, _≤_}
 use lib.ListN.{getD, set, length, replicate}
-use Rattle.table.specs.declared.types.Mode.{Mode}
 use Rattle.table.specs.declared.types.Mode.the-variants.{Var, Val, Once, Spec}
 use Rattle.machine.specs.declared.threads.Slot.{Slot}
 use Rattle.machine.specs.declared.threads.Slot.the-variants.{Empty, Null, Number, Reference}
 use Rattle.machine.specs.Values.{word-of}
 use Rattle.machine.specs.declared.threads.Frame.{Frame}
-use Rattle.safety.specs.Model.{Right, alias, owned, pristine, Claim, num, pt, Content, fnum, falias, fowned, Structs, Has, Spot, spot, Slots, rank}
+use Rattle.safety.specs.Model.{Right, alias, owned, pristine, Claim, num, pt, falias, fowned, Structs, Has, rank}
 use Rattle.safety.specs.Fields.{With, Without, Alone, Flows, tyOf, lent, valOf, spent}
 use Rattle.safety.specs.Step.{Mem, poke, added, shared, Writable, RefTo, Plain}
-use Rattle.safety.specs.Threads.{Scopes, frameAt, flat, FallsSc, advance}
+use Rattle.safety.specs.Threads.{Scopes, frameAt, FallsSc, advance}
 use Rattle.safety.specs.Calls.{spendVals, givenVals, paramScope, IsFrame}
-use Rattle.safety.specs.Kept.{void, Kept}
 
 -- the arguments of a call: each in scope with a type that flows to the parameter's, no slot twice
 abbrev pub NotIn : ℕ → List (ℕ × Claim) → Type 0
@@ -126,11 +124,3 @@ module _ (St : Structs) (S : Scopes) where
   -- thread 0 at record 0 of function 0, which has no parameters
   abbrev pub started : List (List Frame)
   started = (record { function = 0; index = 0; slots = replicate 16 Empty } ∷ []) ∷ []
-
-  pub data Runs : List (List Frame) → Mem → Type 0 where
-    start : S 0 0 ≡ [] → Runs started void
-    step : {M M′ : List (List Frame)} {R R′ : Mem} → Runs M R → (i j : ℕ) → Active M i j → Typed M R i j M′ R′ → Runs M′ R′
-
--- in every state of every run of records that the rules allow, ownership is kept
-abbrev pub Safety : Type 0
-Safety = (St : Structs) (S : Scopes) (M : List (List Frame)) (R : Mem) → Runs St S M R → Kept St (flat S M) R
