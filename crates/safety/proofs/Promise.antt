@@ -41,7 +41,7 @@ use Rattle.safety.proofs.Counts.{frames-of, tasks-one, clash-none}
 use Rattle.safety.proofs.Poised.{Poised}
 
 -- the frames of the threads
-frames-at : (ts : List Task) (i : ℕ) → getD (frames-of ts) i [] ≡ getD ts i no-task .frames
+pub frames-at : (ts : List Task) (i : ℕ) → getD (frames-of ts) i [] ≡ getD ts i no-task .frames
 frames-at [] i = refl
 frames-at (t ∷ ts) zero = refl
 frames-at (t ∷ ts) (suc i) = frames-at ts i

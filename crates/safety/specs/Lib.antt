@@ -11,3 +11,4 @@ pub mod Notes
 pub mod Owners
 pub mod Runs
 pub mod Safe
+pub mod Words
