@@ -12,3 +12,4 @@ pub mod Owners
 pub mod Runs
 pub mod Safe
 pub mod Words
+pub mod Rehearsals

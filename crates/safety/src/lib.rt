@@ -1,4 +1,5 @@
 // What is promised of every run of an accepted table.
+ghost use Rattle.safety.specs.Rehearsals.{Rehearsals};
 ghost use Rattle.safety.specs.Safe.{Table-safe};
 ghost use Rattle.safety.specs.Words.{Words-stand, Names-stand};
 
@@ -19,6 +20,13 @@ pub fn words_stay_small() -> u8
 // On every run of every accepted table: references name objects that are there, and a pristine slot is the only name of its object.
 pub fn references_name_objects() -> u8
     ensures { λ _. ⌜ Names-stand ⌝ }
+{
+    0
+}
+
+// Runs of small programs, and what their steps answer.
+pub fn rehearsals_hold() -> u8
+    ensures { λ _. ⌜ Rehearsals ⌝ }
 {
     0
 }
