@@ -1,11 +1,18 @@
 // What is promised of every run of an accepted table.
 ghost use Rattle.safety.specs.Rehearsals.{Rehearsals};
-ghost use Rattle.safety.specs.Safe.{Table-safe};
+ghost use Rattle.safety.specs.Safe.{Table-safe, Run-safe};
 ghost use Rattle.safety.specs.Words.{Words-stand, Names-stand};
 
 // On every run of every table that is read and accepted: no step is stuck, no two threads clash, and no object has two owners.
 pub fn accepted_tables_stay_safe() -> u8
     ensures { λ _. ⌜ Table-safe ⌝ }
+{
+    0
+}
+
+// The same after every list of threads that step in turn.
+pub fn thread_lists_stay_safe() -> u8
+    ensures { λ _. ⌜ Run-safe ⌝ }
 {
     0
 }
