@@ -74,9 +74,9 @@ asked-low n (Some t) = tt
 decoded-low : (b : List ℕ) → Low-record (decoded b)
 decoded-low b =
     cond-both (eqb (length b) 12 && fits (form-of (getD b 0 0)) (slot-byte b) (take 6 (drop 2 b)) (number-of b)) _ None Low-record
-      (λ e. cond-both (ltb (getD b 0 0) 16) (op-of b) (asked-by (number-of b) (test-of b)) Low-record
-        (λ _. op-low b (ltb-true _ _ (and-parts _ _ (and-parts _ _ (and-parts _ _ e .1) .0) .0))) (λ _. asked-low (number-of b) (test-of b)))
-      (λ _. tt)
+    (λ e. cond-both (ltb (getD b 0 0) 16) (op-of b) (asked-by (number-of b) (test-of b)) Low-record
+    (λ _. op-low b (ltb-true _ _ (and-parts _ _ (and-parts _ _ (and-parts _ _ e .1) .0) .0))) (λ _. asked-low (number-of b) (test-of b)))
+    (λ _. tt)
 
 -- every record of a table
 abbrev pub Low-program : Program → Type 0
@@ -85,4 +85,4 @@ Low-program p = (n i : ℕ) → Low-record (R.record-at (callee p n) i)
 pub program-low : (b : List ℕ) (p : Program) → program b ≡ Ok p → Low-program p
 program-low b p h = subst Low-program (opened b p h .1)
     (listing-all (λ (fn : Function). (i : ℕ) → Low-record (R.record-at fn i)) no-function (function-count b) (function-at b)
-      (λ n _. listing-all Low-record None (record-count b n) (record-at b n) (λ i _. decoded-low (take 12 (drop (record-place b n i) b))) tt) (λ i. tt))
+    (λ n _. listing-all Low-record None (record-count b n) (record-at b n) (λ i _. decoded-low (take 12 (drop (record-place b n i) b))) tt) (λ i. tt))

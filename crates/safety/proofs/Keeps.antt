@@ -17,7 +17,6 @@ use Rattle.safety.proofs.Cells.{not-cell-at}
 use Rattle.safety.proofs.Ops as O
 use Rattle.safety.proofs.Hand as D
 
-
 module _ (St : Structs) where
   -- one step, from the memory under a ghost heap
   keeps-at : (σ : Slots) (H : Heap) (t : Spot) → σ t ≡ out → Inv St σ H → (σ′ : Slots) (R′ : Mem) → Step St σ (erase H) σ′ R′ → Sound St σ′ R′
@@ -48,6 +47,7 @@ module _ (St : Structs) where
     where
       G : Heap
       G = record { size = 0; kind = λ o. 0; mem = λ o f. zeroed }
+
       un : (p q : Place) (o : ℕ) → Rattle.safety.specs.Model.own St blank G p ≡ suc o → Rattle.safety.specs.Model.own St blank G q ≡ suc o → p ≡ q
       un (at s) q o h j = let z : ⊥ = omega arith in absurd z
       un (cell p f) q o h j = let i = own-zeroed (St .field 0 f) in let z : ⊥ = omega arith in absurd z
@@ -68,11 +68,12 @@ name-word (fowned s) c d e = e
 
 kept : (St : Structs) (σ : Slots) (H : Heap) → Inv St σ H → Kept St σ (erase H)
 kept St σ H inv = record {
-    no-clash = clash;
-    only-name = λ x y o s w ts ex h. at-inj (inv .sole x (at y) o (ap prisE ex) h);
-    no-field = λ x o s w ts ex p f h. not-cell-at (inv .sole x (cell p f) o (ap prisE ex) (name-word (St .field (H .kind p) f) (H .mem p f) (record { word = H .mem p f .word; mark = false; dead = false }) refl ∙ h));
-    named = λ p f o h. inv .cells p f .points o (name-word (St .field (H .kind p) f) (H .mem p f) (record { word = H .mem p f .word; mark = false; dead = false }) refl ∙ h) .0;
-    fits = λ x v t ts ex. fits St H v t (O.at-slot St σ H x (here v t ts) inv ex .0) }
+  no-clash = clash;
+  only-name = λ x y o s w ts ex h. at-inj (inv .sole x (at y) o (ap prisE ex) h);
+  no-field = λ x o s w ts ex p f h. not-cell-at (inv .sole x (cell p f) o (ap prisE ex) (name-word (St .field (H .kind p) f) (H .mem p f) (record { word = H .mem p f .word; mark = false; dead = false }) refl ∙ h));
+  named = λ p f o h. inv .cells p f .points o (name-word (St .field (H .kind p) f) (H .mem p f) (record { word = H .mem p f .word; mark = false; dead = false }) refl ∙ h) .0;
+  fits = λ x v t ts ex. fits St H v t (O.at-slot St σ H x (here v t ts) inv ex .0);
+}
   where
     clash : (x y : Spot) (o : ℕ) → ownE (σ x) ≡ suc o → ownE (σ y) ≡ suc o → x ≡ y
     clash x y o h j = at-inj (inv .unique (at x) (at y) o h j)

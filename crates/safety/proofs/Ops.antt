@@ -22,18 +22,21 @@ use Rattle.safety.proofs.Scope.{lessen, bind, move}
 use Rattle.safety.proofs.Flow.{read-conf}
 use Rattle.safety.proofs.Cells.{claim}
 
-
 never : {A : Type 0} (a b : Mode) → a ≡ b → ¬ (a ≡ b) → A
 never a b e n = absurd (n e)
 
 pub var-once : (m : Mode) → m ≡ Var → m ≡ Once → ⊥
 var-once m a b = let z : _≡_ {A = ℕ} 0 1 = cc in omega arith
+
 pub var-spec : (m : Mode) → m ≡ Var → m ≡ Spec → ⊥
 var-spec m a b = let z : _≡_ {A = ℕ} 0 1 = cc in omega arith
+
 pub val-spec : (m : Mode) → m ≡ Val → m ≡ Spec → ⊥
 val-spec m a b = let z : _≡_ {A = ℕ} 0 1 = cc in omega arith
+
 pub val-once : (m : Mode) → m ≡ Val → m ≡ Once → ⊥
 val-once m a b = let z : _≡_ {A = ℕ} 0 1 = cc in omega arith
+
 pub spec-once : (m : Mode) → m ≡ Spec → m ≡ Once → ⊥
 spec-once m a b = let z : _≡_ {A = ℕ} 0 1 = cc in omega arith
 
@@ -94,16 +97,16 @@ module _ (St : Structs) where
   -- a copy of what a slot has, as a number or an alias
   pub do-lend : (σ : Slots) (H : Heap) (z x : Spot) (v : Slot) (t t′ : Claim) (ts : List Claim) → Inv St σ H → σ x ≡ here v t ts → Flows t t′ → rank t′ ≡ 0 → Inv St (put σ z (here v t′ [])) H
   do-lend σ H z x v t t′ ts inv ex f r = bind St σ H z (here v t′ []) (at x) inv (flow St H v t t′ (at-slot σ H x (here v t ts) inv ex .0) f, tt)
-    (own-low t′ (nameOf v) r) (pris-low t′ (nameOf v) (omega arith))
-    (λ s h. ap (λ (y : Spot). prisE (σ y)) (sym (at-inj h)) ∙ ap prisE ex ∙ pris-low t (nameOf v) (flow-lent t t′ f r)) (inr (ap nameE (sym ex)))
+      (own-low t′ (nameOf v) r) (pris-low t′ (nameOf v) (omega arith))
+      (λ s h. ap (λ (y : Spot). prisE (σ y)) (sym (at-inj h)) ∙ ap prisE ex ∙ pris-low t (nameOf v) (flow-lent t t′ f r)) (inr (ap nameE (sym ex)))
 
   pub do-get : (σ : Slots) (H : Heap) (z : Spot) (p f : ℕ) → Inv St σ H → Inv St (put σ z (here (valOf (fieldAt St H p f) (H .mem p f .word)) (lent (fieldAt St H p f)) [])) H
   do-get σ H z p f inv = bind St σ H z (here (valOf (fieldAt St H p f) (H .mem p f .word)) (lent (fieldAt St H p f)) []) (cell p f) inv (read-conf St H p f (inv .cells p f), tt)
-    (lent-own (fieldAt St H p f) (nameOf (valOf (fieldAt St H p f) (H .mem p f .word)))) (lent-pris (fieldAt St H p f) (nameOf (valOf (fieldAt St H p f) (H .mem p f .word))))
-    (λ s h. absurd (not-cell-at h)) (inr (name-val (fieldAt St H p f) (H .mem p f)))
+      (lent-own (fieldAt St H p f) (nameOf (valOf (fieldAt St H p f) (H .mem p f .word)))) (lent-pris (fieldAt St H p f) (nameOf (valOf (fieldAt St H p f) (H .mem p f .word))))
+      (λ s h. absurd (not-cell-at h)) (inr (name-val (fieldAt St H p f) (H .mem p f)))
 
   pub do-give : (σ : Slots) (H : Heap) (z x : Spot) (v : Slot) (t t′ : Claim) (ts : List Claim) → Inv St σ H → ¬ (z ≡ x) → σ x ≡ here v t ts → Flows t t′ → 1 ≤ rank t′
-    → Inv St (put (put σ x (here Null t ts)) z (here v t′ [])) H
+      → Inv St (put (put σ x (here Null t ts)) z (here v t′ [])) H
   do-give σ H z x v t t′ ts inv n ex f r = move St σ H x z v t t′ ts inv n ex (flow St H v t t′ (at-slot σ H x (here v t ts) inv ex .0) f) r (flow-rank t t′ f)
 
   own-sub : (u t : Claim) (n : ℕ) → rank u ≤ rank t → Sub (ownTy u n) (ownTy t n)
@@ -126,12 +129,12 @@ module _ (St : Structs) where
   fall-all H e e′ ends c = (tt, inl refl, inl refl, inl refl)
   fall-all H e e′ (stays i) c = (subst (λ (x : Entry). EntryOK St H x) i c, inr (ap ownE (sym i)), inr (ap prisE (sym i)), inr (ap nameE (sym i)))
   fall-all H e e′ (pops {v = v} {t = t} {u = u} {us = us} k) c =
-    let r = fall-all H (here v u us) e′ k (c .1 .0, c .1 .2) in
-    (r .0, sub-sub (r .1) (own-sub u t (nameOf v) (c .1 .1)), sub-sub (r .2) (pris-sub u t (nameOf v) (c .1 .1)), r .3)
+      let r = fall-all H (here v u us) e′ k (c .1 .0, c .1 .2) in
+      (r .0, sub-sub (r .1) (own-sub u t (nameOf v) (c .1 .1)), sub-sub (r .2) (pris-sub u t (nameOf v) (c .1 .1)), r .3)
 
   pub do-fall : (σ σ′ : Slots) (H : Heap) → Inv St σ H → ((s : Spot) → Falls (σ s) (σ′ s)) → Inv St σ′ H
   do-fall σ σ′ H inv k = lessen St σ σ′ H inv (λ s. fall-all H (σ s) (σ′ s) (k s) (inv .slots s) .0) (λ s. fall-all H (σ s) (σ′ s) (k s) (inv .slots s) .1)
-    (λ s. fall-all H (σ s) (σ′ s) (k s) (inv .slots s) .2) (λ s. fall-all H (σ s) (σ′ s) (k s) (inv .slots s) .3)
+      (λ s. fall-all H (σ s) (σ′ s) (k s) (inv .slots s) .2) (λ s. fall-all H (σ s) (σ′ s) (k s) (inv .slots s) .3)
 
   -- a var field is neither marked nor dead
   pub var-unmarked : (σ : Slots) (H : Heap) (p f : ℕ) → Inv St σ H → modeAt St H p f ≡ Var → H .mem p f .mark ≡ false
@@ -141,5 +144,5 @@ module _ (St : Structs) where
   var-live σ H p f inv h = off-true (H .mem p f .dead) (λ e. inv .cells p f .dying e .1 h)
 
   pub do-take : (σ : Slots) (H : Heap) (z : Spot) (p f : ℕ) → Inv St σ H → modeAt St H p f ≡ Var
-    → Sound St (put σ z (here (valOf (fieldAt St H p f) (H .mem p f .word)) (tyOf (fieldAt St H p f)) [])) (poke (erase H) p f 0 false)
+      → Sound St (put σ z (here (valOf (fieldAt St H p f) (H .mem p f .word)) (tyOf (fieldAt St H p f)) [])) (poke (erase H) p f 0 false)
   do-take σ H z p f inv h = (wr H p f zeroed, claim St σ H z p f [] inv (var-live σ H p f inv h) (var-unmarked σ H p f inv h) tt, erase-wr H (erase H) p f zeroed 0 false (off H p f) refl refl)

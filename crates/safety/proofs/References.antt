@@ -78,7 +78,7 @@ module _ (p : Program) (ck : Checked p (notes p)) (W : World) (w : Well p (notes
 
   pristine-entry : (i j x o : ℕ) → Refers p W i j x o → slot (scope p W i j) x .kind ≡ Pristine
       → flat (scopes (notes p)) (frames-of (W .tasks)) (C.spot i j x)
-        ≡ C.here (V.Reference o) (C.pt C.pristine (slot (scope p W i j) x .strukt) (slot (scope p W i j) x .withheld)) (saved-at (now i j) x)
+      ≡ C.here (V.Reference o) (C.pt C.pristine (slot (scope p W i j) x .strukt) (slot (scope p W i j) x .withheld)) (saved-at (now i j) x)
   pristine-entry i j x o r e = entry i j x o r
       ∙ ap (λ (k : Kind). C.here (V.Reference o) (by-kind k (slot (scope p W i j) x .strukt) (slot (scope p W i j) x .withheld)) (saved-at (now i j) x)) e
 
@@ -90,17 +90,18 @@ module _ (p : Program) (ck : Checked p (notes p)) (W : World) (w : Well p (notes
 
   pub named : Named p W
   named = record {
-      slots = λ i j x o r.
+    slots = λ i j x o r.
         let t = slot (scope p W i j) x in
         fits-struct (mem (W .memory)) o (t .kind) (t .strukt) (t .withheld) (held .fits (C.spot i j x) (V.Reference o) (core t) (saved-at (now i j) x) (entry i j x o r)) .0;
-      cells = λ q f o r. held .named q f o (word-name q f o r);
-      only-slot = λ i j x o r e i′ j′ x′ r′.
+    cells = λ q f o r. held .named q f o (word-name q f o r);
+    only-slot = λ i j x o r e i′ j′ x′ r′.
         let t = slot (scope p W i j) x in
         let s = slot-frame (held .only-name (C.spot i j x) (C.spot i′ j′ x′) o (t .strukt) (t .withheld) (saved-at (now i j) x) (pristine-entry i j x o r e) (ap C.nameE (entry i′ j′ x′ o r′))) in
         (s .0 .0, s .0 .1, s .1);
-      no-field = λ i j x o r e q f h.
+    no-field = λ i j x o r e q f h.
         let t = slot (scope p W i j) x in
-        held .no-field (C.spot i j x) o (t .strukt) (t .withheld) (saved-at (now i j) x) (pristine-entry i j x o r e) q f (word-name q f o h) }
+        held .no-field (C.spot i j x) o (t .strukt) (t .withheld) (saved-at (now i j) x) (pristine-entry i j x o r e) q f (word-name q f o h);
+  }
 
 pub names-stand : Names-stand
 names-stand b p h v m W turns s =

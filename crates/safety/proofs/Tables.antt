@@ -51,8 +51,12 @@ accepted-safe p formed shaped v m W turns h =
     record {
       never-stuck = never-stuck p (notes p) ck N w;
       no-clash = no-clash p (notes p) ck N w;
-      one-owner = λ scratch o l k. (owners-of p N o, answered p N scratch o v (known p (notes p) ck N w) l k,
-        subst (λ (ts : ℕ → ℕ → List Ty). tasks-owning ts (N .tasks) o ≤ 1) (notes-types p) (few-owners p (notes p) ck N w o)) }
+      one-owner = λ scratch o l k. (
+        owners-of p N o,
+        answered p N scratch o v (known p (notes p) ck N w) l k,
+        subst (λ (ts : ℕ → ℕ → List Ty). tasks-owning ts (N .tasks) o ≤ 1) (notes-types p) (few-owners p (notes p) ck N w o),
+      );
+    }
 
 pub table-safe : Table-safe
 table-safe b p h v = let f = program-stands b p h in accepted-safe p (f .0) (f .1) v

@@ -31,7 +31,7 @@ use Rattle.machine.specs.Values.{reference-of, word-of, object-of, left, value-
 use Rattle.machine.specs.declared.threads.Frame.{Frame}
 use Rattle.machine.specs.World.{no-frame, Task, World, no-task, op-at, task, is-running, starting, main-frame, in-table}
 use Rattle.machine.specs.declared.threads.Status.the-variants.{Running}
-use Rattle.machine.specs.Ways.{Change, newest, waiting, slots, value, way, moved, go, opened, returned, call-slot}
+use Rattle.machine.specs.Ways.{standing, Change, newest, waiting, slots, value, way, moved, go, opened, returned, call-slot}
 use Rattle.machine.specs.Steps.{Turn, Fails, Does, room-for, unless, taking, joined, commit, stepped, after-step, Taken, step-fault, all-words}
 use Rattle.machine.specs.Reading.{cell, field-type}
 use Rattle.machine.specs.Tests.{trial}
@@ -88,17 +88,22 @@ passing-small vs (x ∷ xs) (t ∷ ts) n h (suc k) = passing-small vs xs ts (n -
 stored-small : (m : Store) (o f n : ℕ) (k : Bool) → Small-memory m → n < 2 ^ 31 → Small-memory (stored m o f n k)
 stored-small m o f n k h l = record {
   words = set-all SmallO (m .objects) o (record { kind = objectAt m o .kind; cells = set (objectAt m o .cells) f (record { word = n; mark = k }) }) (record { kind = 0; cells = [] })
-    (set-all (λ (c : Cell). c .word < 2 ^ 31) (objectAt m o .cells) f (record { word = n; mark = k }) (plain 0) l (h .words o)) (h .words);
-  sized = record { fits = (let a = length-set (m .objects) o (record { kind = objectAt m o .kind; cells = set (objectAt m o .cells) f (record { word = n; mark = k }) }) in let b = h .sized .fits in omega arith); most = h .sized .most } }
+      (set-all (λ (c : Cell). c .word < 2 ^ 31) (objectAt m o .cells) f (record { word = n; mark = k }) (plain 0) l (h .words o)) (h .words);
+  sized = record { fits = (let a = length-set (m .objects) o (record { kind = objectAt m o .kind; cells = set (objectAt m o .cells) f (record { word = n; mark = k }) }) in let b = h .sized .fits in omega arith); most = h .sized .most };
+}
 
 added-small : (m : Store) (s : ℕ) → Small-memory m → countOf m < m .capacity → Small-memory (withObject m s)
 added-small m s h l = record {
   words = push-all SmallO (m .objects) (record { kind = s; cells = replicate 8 (plain 0) }) (record { kind = 0; cells = [] }) (rep-all (λ (c : Cell). c .word < 2 ^ 31) 8 (plain 0) (omega arith)) (h .words);
-  sized = record { fits = (let a = length-push (m .objects) (record { kind = s; cells = replicate 8 (plain 0) }) in omega arith); most = h .sized .most } }
+  sized = record { fits = (let a = length-push (m .objects) (record { kind = s; cells = replicate 8 (plain 0) }) in omega arith); most = h .sized .most };
+}
 
 -- the record that a frame stands before
 op-low : (p : Program) (F : Frame) → Low-program p → Low-record (op-at p F)
 op-low p F h = cond-both (in-table p F) (record-at (callee p (F .function)) (F .index)) None Low-record (λ _. h (F .function) (F .index)) (λ _. tt)
+
+standing-low : (p : Program) (fs : List Frame) → Low-program p → Low-record (standing p fs)
+standing-low p fs h = cond-both (ltb 0 (length fs)) (op-at p (newest fs)) None Low-record (λ _. op-low p (newest fs) h) (λ _. tt)
 
 -- numbers of refusals from 60 on
 abbrev above : List Premise → Bool
@@ -184,8 +189,10 @@ module _ (p : Program) (m : Store) (fs : List Frame) (hf : Small-frames fs) (hm 
   returns x (suc zero) = record { frames = λ j k. omega arith; memory = hm; forked = tt }
   returns x (suc (suc d)) = record {
     frames = set-all (λ (F : Frame). Small-slots (F .slots)) (take (suc d) fs) d _ no-frame (set-slots (waiting fs .slots) (call-slot (op-at p (waiting fs))) (value p m fs x) (hf (length fs - 2)) (here x))
-      (take-all (λ (F : Frame). Small-slots (F .slots)) (suc d) fs no-frame (λ k. omega arith) hf);
-    memory = hm; forked = tt }
+        (take-all (λ (F : Frame). Small-slots (F .slots)) (suc d) fs no-frame (λ k. omega arith) hf);
+    memory = hm;
+    forked = tt;
+  }
 
   -- each record is refused from 70 on, and what comes of it is small
   does-small : (op : Op) (threads room : ℕ) → Low op
@@ -194,7 +201,7 @@ module _ (p : Program) (m : Store) (fs : List Frame) (hf : Small-frames fs) (hm 
     where
       full : (b : Bool) → ltb (countOf m) (m .capacity) ≡ b → Small-turn (unless (cond b None (Some 65)) (Does (way p m fs (New z s) .change) None))
       full true e = let k = ltb-true (countOf m) (m .capacity) e in
-        goes _ _ _ (set-slots vs z (V.Reference (countOf m)) here (let a = hm .sized .most in omega arith)) (added-small m s hm k)
+          goes _ _ _ (set-slots vs z (V.Reference (countOf m)) here (let a = hm .sized .most in omega arith)) (added-small m s hm k)
       full false e = omega arith
   does-small (Null z s) threads room l = (refl, goes _ _ m (set-slots vs z V.Null here (omega arith)) hm)
   does-small (Int z n) threads room l = (refl, goes _ _ m (set-slots vs z (V.Number n) here l) hm)
@@ -202,23 +209,30 @@ module _ (p : Program) (m : Store) (fs : List Frame) (hf : Small-frames fs) (hm 
   does-small (Own z x) threads room l = (refl, goes _ _ m (set-slots (set vs x V.Null) z _ (set-slots vs x V.Null here (omega arith)) (here x)) hm)
   does-small (Get z x f) threads room l = (refl, goes _ _ m (set-slots vs z _ here (got-at x f)) hm)
   does-small (Take z x f) threads room l = (refl, goes _ _ _ (set-slots vs z _ here (got-at x f)) (stored-small m _ f 0 false hm (omega arith)))
-  does-small (Set z x f y) threads room l = (refl, asked (all-words (word-of (value p m fs y) ∷ [])) _ (and-from _ _ (is-word _ (here y)) refl)
-    (goes _ _ _ (set-slots _ z _ (set-slots _ x V.Null (set-slots vs y _ here (left-at x f y)) (omega arith)) (here x)) (stored-small m _ f _ false hm (here y))))
+  does-small (Set z x f y) threads room l = (
+    refl,
+    asked (all-words (word-of (value p m fs y) ∷ [])) _ (and-from _ _ (is-word _ (here y)) refl)
+        (goes _ _ _ (set-slots _ z _ (set-slots _ x V.Null (set-slots vs y _ here (left-at x f y)) (omega arith)) (here x)) (stored-small m _ f _ false hm (here y))),
+  )
   does-small (Add z x y) threads room l = (refl, goes _ _ m (set-slots vs z (V.Number ((word-of (value p m fs x) + word-of (value p m fs y)) % 2 ^ 31)) here (mod-lt (word-of (value p m fs x) + word-of (value p m fs y)) (omega arith))) hm)
   does-small (Call z n args) threads room l = (refl, late (ltb (length fs) 8))
     where
       late : (b : Bool) → Small-turn (unless (cond b None (Some 66)) (Does (way p m fs (Call z n args) .change) None))
       late true = record {
         frames = push-all (λ (F : Frame). Small-slots (F .slots)) (moved p m fs (newest fs .index) (leaving vs args (callee p n .params))) (opened p m fs n args) no-frame
-          (passing-small vs args (callee p n .params) 16 here) (goes (newest fs .index) (leaving vs args (callee p n .params)) m (leaving-small vs args (callee p n .params) here) hm .frames);
-        memory = hm; forked = tt }
+            (passing-small vs args (callee p n .params) 16 here) (goes (newest fs .index) (leaving vs args (callee p n .params)) m (leaving-small vs args (callee p n .params) here) hm .frames);
+        memory = hm;
+        forked = tt;
+      }
       late false = omega arith
   does-small (Fork n args) threads room l = (refl, late (ltb threads 8))
     where
       late : (b : Bool) → Small-turn (unless (cond b None (Some 67)) (Does (way p m fs (Fork n args) .change) None))
       late true = record {
         frames = goes (suc (newest fs .index)) (leaving vs args (callee p n .params)) m (leaving-small vs args (callee p n .params) here) hm .frames;
-        memory = hm; forked = passing-small vs args (callee p n .params) 16 here }
+        memory = hm;
+        forked = passing-small vs args (callee p n .params) 16 here;
+      }
       late false = omega arith
   does-small (Return x) threads room l = (refl, returns x (length fs))
   does-small (Again args) threads room l = (refl, goes _ _ m (passing-small vs args (callee p (newest fs .function) .params) 16 here) hm)
@@ -229,13 +243,13 @@ module _ (p : Program) (m : Store) (fs : List Frame) (hf : Small-frames fs) (hm 
       late true = goes _ vs m here hm
       late false = omega arith
   does-small (Ask t a b) threads room l =
-    (test-asks t .0, asked (all-words (trial p m vs t .words)) _ (test-asks t .1) (cond-both (trial p m vs t .says) _ _ (λ c. Small-change c) (λ _. yes-small t) (λ _. goes _ vs m here hm)))
+      (test-asks t .0, asked (all-words (trial p m vs t .words)) _ (test-asks t .1) (cond-both (trial p m vs t .says) _ _ (λ c. Small-change c) (λ _. yes-small t) (λ _. goes _ vs m here hm)))
 
   turn-small : (o : Option Op) (threads room : ℕ) → Low-record o → Small-turn (taking p m fs threads room o)
   turn-small None threads room l = omega arith
   turn-small (Some op) threads room l =
-    let d = does-small op threads room l in
-    unless-above (way p m fs op .asks) _ (d .0) (cond-both (way p m fs op .halts) _ _ Small-turn (λ _. record { frames = hf; memory = hm; forked = tt }) (λ _. d .1))
+      let d = does-small op threads room l in
+      unless-above (way p m fs op .asks) _ (d .0) (cond-both (way p m fs op .halts) _ _ Small-turn (λ _. record { frames = hf; memory = hm; forked = tt }) (λ _. d .1))
 
 -- the machine
 abbrev SmallT : Task → Type 0
@@ -257,13 +271,14 @@ commit-small : (W : World) (i : ℕ) → Small W → (t : Turn) → Small-turn t
 commit-small W i h (Fails n) k = k
 commit-small W i h (Does c out) k = record {
   frames = fork-small (set (W .tasks) i (record { status = c .status; frames = c .frames })) (c .forked) (k .forked)
-    (set-all SmallT (W .tasks) i (record { status = c .status; frames = c .frames }) no-task (k .frames) (h .frames));
-  memory = k .memory }
+      (set-all SmallT (W .tasks) i (record { status = c .status; frames = c .frames }) no-task (k .frames) (h .frames));
+  memory = k .memory;
+}
 
 pub step-small : (p : Program) → Low-program p → (room : ℕ) (W : World) (i : ℕ) → Small W → Small-after (stepped p room W i)
 step-small p l room W i h = cond-both (is-running (task W i .status)) _ (Err (step-fault i 64)) Small-after
-  (λ _. commit-small W i h _ (turn-small p (W .memory) (task W i .frames) (h .frames i) (h .memory) (op-at p (newest (task W i .frames))) (length (W .tasks)) room (op-low p (newest (task W i .frames)) l)))
-  (λ _. omega arith)
+    (λ _. commit-small W i h _ (turn-small p (W .memory) (task W i .frames) (h .frames i) (h .memory) (standing p (task W i .frames)) (length (W .tasks)) room (standing-low p (task W i .frames) l)))
+    (λ _. omega arith)
 
 after-small : (W : World) (o : Result Taken Fault) → Small W → Small-after o → Small (after-step W o)
 after-small W (Err e) h k = h
@@ -279,9 +294,11 @@ start-small m e h = record { frames = frames; memory = record { words = λ o f. 
     no-cell : (os : List Object) (o f : ℕ) → length os ≡ 0 → getD (getD os o (record { kind = 0; cells = [] }) .cells) f (plain 0) ≡ plain 0
     no-cell [] o f h = refl
     no-cell (q ∷ os) o f h = absurd (omega arith)
+
     first-frame : Small-frames (main-frame ∷ [])
     first-frame zero x = rep-all SmallV 16 V.Empty (omega arith) x
     first-frame (suc j) x = omega arith
+
     frames : (i : ℕ) → Small-frames (task (starting m) i .frames)
     frames zero j x = first-frame j x
     frames (suc i) j x = omega arith

@@ -73,7 +73,7 @@ seven-bytes =
 -- a push and a pop: a tentative write, link, unlink
 abbrev pub push-pop : Program
 push-pop = around
-  (New 0 0 ∷ Own 1 0 ∷ New 2 0 ∷ Int 3 5 ∷ Set 4 2 3 3 ∷ Get 5 1 0 ∷ Set 6 4 1 5
+    (New 0 0 ∷ Own 1 0 ∷ New 2 0 ∷ Int 3 5 ∷ Set 4 2 3 3 ∷ Get 5 1 0 ∷ Set 6 4 1 5
     ∷ Ask (Link 1 0 6 1) 4 1 ∷ Get 7 1 0 ∷ Get 8 7 3 ∷ Emit 8 ∷ Join 1 ∷ Emit 3
     ∷ Get 7 1 0 ∷ Ask (Unlink 1 0 7 1) 3 1 ∷ Get 8 7 3 ∷ Emit 8 ∷ Join 1 ∷ Emit 3
     ∷ Return 3 ∷ []) []
@@ -81,7 +81,7 @@ push-pop = around
 -- try once, and once more in vain; then the field is stable
 abbrev pub once-only : Program
 once-only = around
-  (New 0 0 ∷ Own 1 0 ∷ New 2 0 ∷ Int 3 5
+    (New 0 0 ∷ Own 1 0 ∷ New 2 0 ∷ Int 3 5
     ∷ Ask (Try 1 4 2) 2 0 ∷ Emit 3 ∷ Join 0
     ∷ New 4 0 ∷ Ask (Try 1 4 4) 2 0 ∷ Emit 3 ∷ Join 0
     ∷ Ask (Stable 1 4) 2 0 ∷ Emit 3 ∷ Join 0 ∷ Return 3 ∷ []) []
@@ -89,7 +89,7 @@ once-only = around
 -- swap, fix, and a swap of a marked field in vain
 abbrev pub swap-fix : Program
 swap-fix = around
-  (Int 0 5 ∷ New 1 0 ∷ Own 2 1 ∷ New 3 0 ∷ Get 4 2 0
+    (Int 0 5 ∷ New 1 0 ∷ Own 2 1 ∷ New 3 0 ∷ Get 4 2 0
     ∷ Ask (Swap 2 0 4 3) 2 0 ∷ Emit 0 ∷ Join 0
     ∷ Get 5 2 0 ∷ Ask (Fix 2 0 5) 2 0 ∷ Emit 0 ∷ Join 0
     ∷ Ask (Swap 2 0 5 3) 2 0 ∷ Emit 0 ∷ Join 0 ∷ Return 0 ∷ []) []
@@ -97,14 +97,14 @@ swap-fix = around
 -- a call that hands an owned object over and back, and a fork that takes it
 abbrev pub hand-over : Program
 hand-over = around
-  (New 0 0 ∷ Own 1 0 ∷ Int 2 7 ∷ Call 3 1 (bytes 5 (1 ∷ 2 ∷ [])) ∷ Fork 1 (bytes 5 (3 ∷ 2 ∷ [])) ∷ Return 2 ∷ [])
-  (function-of (type Owned 0 0 ∷ number ∷ []) (type Owned 0 0) (says (Return 0 ∷ [])) ∷ [])
+    (New 0 0 ∷ Own 1 0 ∷ Int 2 7 ∷ Call 3 1 (bytes 5 (1 ∷ 2 ∷ [])) ∷ Fork 1 (bytes 5 (3 ∷ 2 ∷ [])) ∷ Return 2 ∷ [])
+    (function-of (type Owned 0 0 ∷ number ∷ []) (type Owned 0 0) (says (Return 0 ∷ [])) ∷ [])
 
 -- a function that goes round three times
 abbrev pub loops : Program
 loops = around
-  (Int 0 0 ∷ Call 1 1 (bytes 5 (0 ∷ [])) ∷ Return 1 ∷ [])
-  (function-of (number ∷ []) number
+    (Int 0 0 ∷ Call 1 1 (bytes 5 (0 ∷ [])) ∷ Return 1 ∷ [])
+    (function-of (number ∷ []) number
     (says (Int 1 2 ∷ Ask (Equal 0 1) 1 0 ∷ Return 0 ∷ Emit 0 ∷ Int 2 1 ∷ Add 3 0 2 ∷ Again (bytes 6 (3 ∷ [])) ∷ [])) ∷ [])
 
 -- a function that calls itself, and one that forks for ever
@@ -117,14 +117,14 @@ many = around (Fork 1 (bytes 5 []) ∷ Again (bytes 6 []) ∷ []) (function-of [
 -- not accepted: a thread that is forked with an alias gets a var field of its object
 abbrev pub clashing : Program
 clashing = around
-  (New 0 0 ∷ Own 1 0 ∷ Share 2 1 ∷ Fork 1 (bytes 5 (2 ∷ [])) ∷ Get 3 1 2 ∷ Return 3 ∷ [])
-  (function-of (type Alias 0 0 ∷ []) number (says (Get 1 0 2 ∷ Return 1 ∷ [])) ∷ [])
+    (New 0 0 ∷ Own 1 0 ∷ Share 2 1 ∷ Fork 1 (bytes 5 (2 ∷ [])) ∷ Get 3 1 2 ∷ Return 3 ∷ [])
+    (function-of (type Alias 0 0 ∷ []) number (says (Get 1 0 2 ∷ Return 1 ∷ [])) ∷ [])
 
 -- not accepted: one owned slot goes to two parameters
 abbrev pub twice : Program
 twice = around
-  (New 0 0 ∷ Own 1 0 ∷ Call 2 1 (bytes 5 (1 ∷ 1 ∷ [])) ∷ Return 2 ∷ [])
-  (function-of (type Owned 0 0 ∷ type Owned 0 0 ∷ []) number (says (Int 2 0 ∷ Return 2 ∷ [])) ∷ [])
+    (New 0 0 ∷ Own 1 0 ∷ Call 2 1 (bytes 5 (1 ∷ 1 ∷ [])) ∷ Return 2 ∷ [])
+    (function-of (type Owned 0 0 ∷ type Owned 0 0 ∷ []) number (says (Int 2 0 ∷ Return 2 ∷ [])) ∷ [])
 
 -- a null x
 abbrev pub null-get : Program
@@ -170,7 +170,8 @@ last-answer r =
 abbrev pub alone : List Slot → List Object → World
 alone vs os = record {
   tasks = record { status = Running; frames = record { function = 0; index = 0; slots = take 16 (vs ++ replicate 16 V.Empty) } ∷ [] } ∷ [];
-  memory = record { capacity = 8; objects = os } }
+  memory = record { capacity = 8; objects = os };
+}
 
 abbrev pub refused-with : Result Taken Fault → Option Fault
 refused-with (Ok t) = None
