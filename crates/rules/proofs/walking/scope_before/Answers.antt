@@ -17,7 +17,7 @@ returns-in-rest c =
       small = λ h. refl;
       found = λ v there room.
           let ok = accepted-of p (c .args .function) (c .args .index) v there in
-          absurd (no-step p fn (c .args .index) (c .advance .last .types) (c .advance .result) (c .in-rest .not-Some) (c .advance .ensures .leads ok there (c .loop-at .inv .2 ok there)));
+          absurd (no-step _ (c .args .index) (c .advance .last .types) (c .advance .result) (c .in-rest .not-Some) (c .advance .ensures .leads (c .loop-at .inv .2)) ok there);
     }
 
 pub returns : need.returns
