@@ -1,0 +1,15 @@
+pub mod Model
+pub mod Fields
+pub mod Step
+pub mod Kept
+pub mod Frames
+pub mod Threads
+pub mod Calls
+pub mod Typed
+pub mod Checked
+pub mod Notes
+pub mod Owners
+pub mod Runs
+pub mod Safe
+pub mod Words
+pub mod Rehearsals
