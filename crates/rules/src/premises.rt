@@ -14,7 +14,7 @@ use super::scope::all_differ;
 use super::scope::first_failing;
 use table::records::Record;
 use table::records::Test;
-use table::records::zeros_from;
+use table::zeros_from;
 
 impl<'t, 's> Scope<'t, 's> {
     // The number that a record is refused with, but for its place in the blocks.

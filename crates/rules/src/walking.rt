@@ -5,10 +5,11 @@ ghost use lib.ListN.{length, take};
 ghost use Rattle.std.specs.declared.option.Option.the-variants.{None};
 ghost use Rattle.std.specs.declared.result.Result.the-variants.{Ok};
 ghost use Rattle.table.specs.Records.{meantBy};
+ghost use Rattle.table.specs.Reading.{program-of};
 ghost use Rattle.rules.specs.Rules.{record-at, callee};
 ghost use Rattle.rules.specs.Scopes.{before, verdict};
 ghost use Rattle.rules.specs.Blocks.{Tests};
-ghost use Rattle.rules.specs.Seen.{seen, program-in, function-in};
+ghost use Rattle.rules.specs.Seen.{program-in, function-in};
 ghost use Rattle.rules.specs.Parts.{test-refused-in};
 ghost use Rattle.rules.specs.Walk.{allowing, Way, Nearer, Leads, Gives};
 use super::body::Body;
@@ -106,15 +107,18 @@ pub fn scope_before(
     index: usize,
     scratch: &mut [Ty],
 ) -> Option<usize>
-    ensures missing { λ r. ⌜ (length (callee (seen (now (table .entry))) function .records) ≤ index → r ≡ None) ⌝ }
+    ensures missing { λ r. ⌜ (length (callee (program-of (now (table .entry))) function .records) ≤ index → r ≡ None) ⌝ }
     ensures small { λ r. ⌜ (length (now (scratch .entry)) < 16 → r ≡ None) ⌝ }
-    ensures found { λ r. ⌜ (verdict (seen (now (table .entry))) ≡ Ok tt → index < length (callee (seen (now (table .entry))) function .records) → 16 ≤ length (now (scratch .entry)) → Gives (before (seen (now (table .entry))) (callee (seen (now (table .entry))) function) index .types) (now (scratch .exit)) r) ⌝ }
+    ensures found { λ r. ⌜ (verdict (program-of (now (table .entry))) ≡ Ok tt → index < length (callee (program-of (now (table .entry))) function .records) → 16 ≤ length (now (scratch .entry)) → Gives (before (program-of (now (table .entry))) (callee (program-of (now (table .entry))) function) index .types) (now (scratch .exit)) r) ⌝ }
 {
     let body = Body {
         table: *table,
         function,
     };
-    if index >= body.records() || scratch.len() < 16 {
+    if index >= body.records() {
+        return None;
+    }
+    if scratch.len() < 16 {
         return None;
     }
     let mut at = Step {
