@@ -10,8 +10,8 @@ use Rattle.table.specs.Program.{Program}
 use Rattle.memory.specs.Model.{Store}
 use Rattle.machine.specs.declared.threads.Frame.{Frame}
 use Rattle.machine.specs.declared.clashing.Clash.{Clash}
-use Rattle.machine.specs.World.{Task, World, is-running, op-at}
-use Rattle.machine.specs.Ways.{Way, newest, way}
+use Rattle.machine.specs.World.{Task, World, is-running}
+use Rattle.machine.specs.Ways.{Way, standing, way}
 
 -- the var field of an object that a thread's next record gets, takes or sets
 abbrev pub touch-by : Program → Store → List Frame → Option Op → Option (ℕ × ℕ)
@@ -19,7 +19,7 @@ touch-by p m fs None = None
 touch-by p m fs (Some op) = way p m fs op .touches
 
 abbrev pub touch : Program → Store → Task → Option (ℕ × ℕ)
-touch p m t = cond (is-running (t .status)) (touch-by p m (t .frames) (op-at p (newest (t .frames)))) None
+touch p m t = cond (is-running (t .status)) (touch-by p m (t .frames) (standing p (t .frames))) None
 
 -- thread k touches t; whether thread l does too
 abbrev pub meets : ℕ → ℕ → ℕ × ℕ → Option (ℕ × ℕ) → Option Clash → Option Clash

@@ -18,8 +18,8 @@ use Rattle.rules.specs.Rules.{Premise, first}
 use Rattle.memory.specs.Model.{Store, countOf, isWord}
 use Rattle.machine.specs.declared.threads.Frame.{Frame}
 use Rattle.machine.specs.declared.threads.Status.the-variants.{Halted}
-use Rattle.machine.specs.World.{Task, World, task, is-running, op-at, begun}
-use Rattle.machine.specs.Ways.{Change, Limit, By-words, By-memory, By-frames, By-threads, By-list, Way, newest, stopped, way}
+use Rattle.machine.specs.World.{Task, World, task, is-running, begun}
+use Rattle.machine.specs.Ways.{Change, Limit, By-words, By-memory, By-frames, By-threads, By-list, Way, standing, stopped, way}
 
 -- a thread's turn is refused with a number, or does something to the thread and may put a number out
 pub data Turn : Type 0 where
@@ -48,8 +48,8 @@ module _ (p : Program) (m : Store) (fs : List Frame) where
   abbrev pub by-way : ℕ → ℕ → Way → Turn
   by-way threads room w =
       unless (first (w .asks))
-        (cond (w .halts) (Does (stopped p m fs Halted fs) None)
-          (unless (first (room-for threads room (w .limit))) (Does (w .change) (w .out))))
+      (cond (w .halts) (Does (stopped p m fs Halted fs) None)
+      (unless (first (room-for threads room (w .limit))) (Does (w .change) (w .out))))
 
   -- 70: no such record or op
   abbrev pub taking : ℕ → ℕ → Option Op → Turn
@@ -77,15 +77,16 @@ abbrev pub commit : World → ℕ → Turn → Result Taken Fault
 commit W i (Fails n) = Err (step-fault i n)
 commit W i (Does c out) = Ok (record {
   world = record { tasks = joined (set (W .tasks) i (record { status = c .status; frames = c .frames })) (c .forked); memory = c .memory };
-  out = out })
+  out = out;
+})
 
 -- one step of thread i, with so much room in the list of numbers put out; 64: it is not running
 abbrev pub stepped : Program → ℕ → World → ℕ → Result Taken Fault
 stepped p room W i =
     let fs = task W i .frames in
     cond (is-running (task W i .status))
-      (commit W i (taking p (W .memory) fs (length (W .tasks)) room (op-at p (newest fs))))
-      (Err (step-fault i 64))
+    (commit W i (taking p (W .memory) fs (length (W .tasks)) room (standing p fs)))
+    (Err (step-fault i 64))
 
 -- a refused step alters nothing
 abbrev pub after-step : World → Result Taken Fault → World

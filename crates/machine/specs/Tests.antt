@@ -53,8 +53,13 @@ module _ (p : Program) (m : Store) (vs : List Slot) where
   -- an exchange of x.f: yes where it is unmarked and holds this word, and then it holds another one, with a mark or not
   abbrev pub exchanges : List Premise → Bool → ℕ → ℕ → ℕ → ℕ → Bool → List Slot → Trial
   exchanges asks halts x f expected new mark ws = record {
-    asks = asks; halts = halts; words = expected ∷ new ∷ [];
-    says = matching (cell p m (at vs x) f) expected; slots = ws; memory = write p m (at vs x) f new mark }
+    asks = asks;
+    halts = halts;
+    words = expected ∷ new ∷ [];
+    says = matching (cell p m (at vs x) f) expected;
+    slots = ws;
+    memory = write p m (at vs x) f new mark;
+  }
 
   -- the value of y goes to x.f
   abbrev pub spent-into : ℕ → ℕ → ℕ → List Slot
@@ -77,11 +82,16 @@ module _ (p : Program) (m : Store) (vs : List Slot) where
   -- from y to w, and w is spent
   trial (Swap x f y w) =
       exchanges (field-asks (given vs x && given vs y && given vs w) (is-reference (at vs x) && is-reference (at vs y) && is-reference (at vs w)) x f)
-        (is-null (at vs x)) x f (word-of (at vs y)) (word-of (at vs w)) false (spent-into x f w)
+      (is-null (at vs x)) x f (word-of (at vs y)) (word-of (at vs w)) false (spent-into x f w)
   -- from whatever word is there to y with a mark, and y is spent
   trial (Try x f y) = exchanges (two-references x f y) (is-null (at vs x)) x f (cell p m (at vs x) f .word) (word-of (at vs y)) true (spent-into x f y)
   -- from y to y with a mark
   trial (Fix x f y) = exchanges (two-references x f y) (is-null (at vs x)) x f (word-of (at vs y)) (word-of (at vs y)) true vs
   trial (Stable x f) = record {
-    asks = field-asks (given vs x) (is-reference (at vs x)) x f; halts = is-null (at vs x); words = [];
-    says = cell p m (at vs x) f .mark; slots = vs; memory = m }
+    asks = field-asks (given vs x) (is-reference (at vs x)) x f;
+    halts = is-null (at vs x);
+    words = [];
+    says = cell p m (at vs x) f .mark;
+    slots = vs;
+    memory = m;
+  }

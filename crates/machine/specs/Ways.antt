@@ -90,6 +90,10 @@ newest fs = getD fs (length fs - 1) no-frame
 abbrev pub waiting : List Frame → Frame
 waiting fs = getD fs (length fs - 2) no-frame
 
+-- the record that a thread stands before; there is none without a frame
+abbrev pub standing : Program → List Frame → Option Op
+standing p fs = cond (ltb 0 (length fs)) (op-at p (newest fs)) None
+
 -- a thread with these frames, over this memory
 module _ (p : Program) (m : Store) (fs : List Frame) where
   abbrev pub slots : List Slot
@@ -143,7 +147,12 @@ module _ (p : Program) (m : Store) (fs : List Frame) where
   abbrev pub way-field : Bool → Bool → ℕ → ℕ → List ℕ → Change → Way
   way-field there kinds x f words c = record {
     asks = (71, there) ∷ (72, kinds) ∷ (73, has-field p m (value x) f) ∷ (74, has-object p m (value x)) ∷ [];
-    touches = touched p m (value x) f; halts = is-null (value x); limit = By-words words; change = c; out = None }
+    touches = touched p m (value x) f;
+    halts = is-null (value x);
+    limit = By-words words;
+    change = c;
+    out = None;
+  }
 
   abbrev pub slot-and : ℕ → ℕ → Bool
   slot-and z x = is-slot z && given slots x
@@ -180,33 +189,43 @@ module _ (p : Program) (m : Store) (fs : List Frame) where
   way (Set z x f y) =
       let t = field-type p m (value x) f in
       way-field (slot-and z x && given slots y) (is-reference (value x) && where-field p m (value x) f (suits t (value y))) x f (word-of (value y) ∷ [])
-        (go next (set (set (set slots y (left t (value y))) x V.Null) z (value x)) (write p m (value x) f (word-of (value y)) false))
+      (go next (set (set (set slots y (left t (value y))) x V.Null) z (value x)) (write p m (value x) f (word-of (value y)) false))
   way (Add z x y) =
       way-free ((71, slot-and z x && given slots y) ∷ (72, holds-number (value x) && holds-number (value y)) ∷ [])
-        (bind z (V.Number ((word-of (value x) + word-of (value y)) % 2 ^ 31)))
+      (bind z (V.Number ((word-of (value x) + word-of (value y)) % 2 ^ 31)))
   way (Call z n args) =
       way-by By-frames ((71, is-slot z && args-given n args) ∷ args-suit n args ∷ has-function n ∷ [])
-        (framed (moved (newest fs .index) (leaving slots args (params n)) ++ (opened n args ∷ [])) m)
+      (framed (moved (newest fs .index) (leaving slots args (params n)) ++ (opened n args ∷ [])) m)
   way (Fork n args) =
       way-by By-threads ((71, args-given n args) ∷ args-suit n args ∷ has-function n ∷ [])
-        (record { status = Running; frames = moved next (leaving slots args (params n)); memory = m; forked = Some (opened n args) })
+      (record { status = Running; frames = moved next (leaving slots args (params n)); memory = m; forked = Some (opened n args) })
   way (Return x) =
       let call = op-at p (waiting fs) in
       way-free
-        ((70, where-waiting (is-call call))
-          ∷ (71, given slots x && where-waiting (is-slot (call-slot call)))
-          ∷ (72, suits (callee p (newest fs .function) .result) (value x))
-          ∷ [])
-        (returned x (length fs))
+      ((70, where-waiting (is-call call))
+      ∷ (71, given slots x && where-waiting (is-slot (call-slot call)))
+      ∷ (72, suits (callee p (newest fs .function) .result) (value x))
+      ∷ [])
+      (returned x (length fs))
   way (Again args) =
       let n = newest fs .function in
       way-free ((71, args-given n args) ∷ args-suit n args ∷ []) (go 0 (passing slots args (params n) 16) m)
   way (Join n) = way-free [] (go (next + n) slots m)
   way (Emit x) = record {
     asks = (71, given slots x) ∷ (72, holds-number (value x)) ∷ [];
-    touches = None; halts = false; limit = By-list; change = go next slots m; out = Some (word-of (value x)) }
+    touches = None;
+    halts = false;
+    limit = By-list;
+    change = go next slots m;
+    out = Some (word-of (value x));
+  }
   way (Ask t a b) =
       let q = trial p m slots t in
       record {
-        asks = q .asks; touches = None; halts = q .halts; limit = By-words (q .words);
-        change = cond (q .says) (go next (q .slots) (q .memory)) (go (next + a) slots m); out = None }
+        asks = q .asks;
+        touches = None;
+        halts = q .halts;
+        limit = By-words (q .words);
+        change = cond (q .says) (go next (q .slots) (q .memory)) (go (next + a) slots m);
+        out = None;
+      }

@@ -2,7 +2,9 @@
 
 // How many slots a frame has, how many frames a thread and how many threads a machine.
 pub const SLOTS: usize = 16;
+
 pub const FRAMES: usize = 8;
+
 pub const THREADS: usize = 8;
 
 // A reference holds the number of its object.

@@ -34,9 +34,9 @@ frames-of (t ∷ ts) = t .frames ∷ frames-of ts
 -- two counts of at most one, not both of one
 one-of : (a b : ℕ) → a ≤ 1 → b ≤ 1 → (0 < a → 0 < b → ⊥) → a + b ≤ 1
 one-of a b h k n = elim (cases-lt 0 a) [
-    inr l ↦ omega arith
+  | inr l ↦ omega arith
   | inl l ↦ elim (cases-lt 0 b) [ inr j ↦ omega arith | inl j ↦ absurd (n l j) ]
-  ]
+]
 
 some-of : (a b : ℕ) → 0 < a + b → (0 < a) ⊎ (0 < b)
 some-of zero b h = inr (omega arith)
@@ -76,16 +76,16 @@ module _ (o : ℕ) where
   slots-some [] vs h = absurd (omega arith)
   slots-some (a ∷ sc) [] h = absurd (omega arith)
   slots-some (a ∷ sc) (v ∷ vs) h = elim (some-of (owns (a .0) v o) (slots-owning (current sc) vs o) h) [
-      inl l ↦ (0, owns-some (a .0) (map core (a .1)) v o l)
+    | inl l ↦ (0, owns-some (a .0) (map core (a .1)) v o l)
     | inr l ↦ (let r = slots-some sc vs l in (suc (r .0), r .1))
-    ]
+  ]
 
   slots-one : (sc : List (Ty × List Ty)) (vs : List Slot) → ((k l : ℕ) → Holds vs sc k → Holds vs sc l → k ≡ l) → slots-owning (current sc) vs o ≤ 1
   slots-one [] vs u = omega arith
   slots-one (a ∷ sc) [] u = omega arith
   slots-one (a ∷ sc) (v ∷ vs) u = one-of (owns (a .0) v o) (slots-owning (current sc) vs o) (owns-one (a .0) v o)
-    (slots-one sc vs (λ k l h j. let e = u (suc k) (suc l) h j in omega arith))
-    (λ h j. let r = slots-some sc vs j in let e = u 0 (suc (r .0)) (owns-some (a .0) (map core (a .1)) v o h) (r .1) in omega arith)
+      (slots-one sc vs (λ k l h j. let e = u (suc k) (suc l) h j in omega arith))
+      (λ h j. let r = slots-some sc vs j in let e = u 0 (suc (r .0)) (owns-some (a .0) (map core (a .1)) v o h) (r .1) in omega arith)
 
   module _ (A : Notes) where
     abbrev HoldsF : List Frame → ℕ → ℕ → Type 0
@@ -94,16 +94,16 @@ module _ (o : ℕ) where
     frames-some : (fs : List Frame) → 0 < frames-owning (types A) fs o → (j k : ℕ) × HoldsF fs j k
     frames-some [] h = absurd (omega arith)
     frames-some (F ∷ fs) h = elim (some-of (slots-owning (types A (F .function) (F .index)) (F .slots) o) (frames-owning (types A) fs o) h) [
-        inl l ↦ (let r = slots-some (A (F .function) (F .index)) (F .slots) l in (0, r .0, r .1))
+      | inl l ↦ (let r = slots-some (A (F .function) (F .index)) (F .slots) l in (0, r .0, r .1))
       | inr l ↦ (let r = frames-some fs l in (suc (r .0), r .1, r .2))
-      ]
+    ]
 
     frames-one : (fs : List Frame) → ((j k j′ k′ : ℕ) → HoldsF fs j k → HoldsF fs j′ k′ → (j ≡ j′) × (k ≡ k′)) → frames-owning (types A) fs o ≤ 1
     frames-one [] u = omega arith
     frames-one (F ∷ fs) u = one-of (slots-owning (types A (F .function) (F .index)) (F .slots) o) (frames-owning (types A) fs o)
-      (slots-one (A (F .function) (F .index)) (F .slots) (λ k l h j. u 0 k 0 l h j .1))
-      (frames-one fs (λ j k j′ k′ h g. let e = u (suc j) k (suc j′) k′ h g in (let a = e .0 in omega arith, e .1)))
-      (λ h g. let r = slots-some (A (F .function) (F .index)) (F .slots) h in let s = frames-some fs g in let e = u 0 (r .0) (suc (s .0)) (s .1) (r .1) (s .2) .0 in omega arith)
+        (slots-one (A (F .function) (F .index)) (F .slots) (λ k l h j. u 0 k 0 l h j .1))
+        (frames-one fs (λ j k j′ k′ h g. let e = u (suc j) k (suc j′) k′ h g in (let a = e .0 in omega arith, e .1)))
+        (λ h g. let r = slots-some (A (F .function) (F .index)) (F .slots) h in let s = frames-some fs g in let e = u 0 (r .0) (suc (s .0)) (s .1) (r .1) (s .2) .0 in omega arith)
 
     abbrev pub HoldsT : List Task → ℕ → ℕ → ℕ → Type 0
     HoldsT ts i j k = C.ownE (flat (scopes A) (frames-of ts) (C.spot i j k)) ≡ suc o
@@ -111,16 +111,16 @@ module _ (o : ℕ) where
     tasks-some : (ts : List Task) → 0 < tasks-owning (types A) ts o → (i j k : ℕ) × HoldsT ts i j k
     tasks-some [] h = absurd (omega arith)
     tasks-some (t ∷ ts) h = elim (some-of (frames-owning (types A) (t .frames) o) (tasks-owning (types A) ts o) h) [
-        inl l ↦ (let r = frames-some (t .frames) l in (0, r .0, r .1, r .2))
+      | inl l ↦ (let r = frames-some (t .frames) l in (0, r .0, r .1, r .2))
       | inr l ↦ (let r = tasks-some ts l in (suc (r .0), r .1, r .2, r .3))
-      ]
+    ]
 
     pub tasks-one : (ts : List Task) → ((i j k i′ j′ k′ : ℕ) → HoldsT ts i j k → HoldsT ts i′ j′ k′ → (i ≡ i′) × (j ≡ j′) × (k ≡ k′)) → tasks-owning (types A) ts o ≤ 1
     tasks-one [] u = omega arith
     tasks-one (t ∷ ts) u = one-of (frames-owning (types A) (t .frames) o) (tasks-owning (types A) ts o)
-      (frames-one (t .frames) (λ j k j′ k′ h g. let e = u 0 j k 0 j′ k′ h g in (e .1, e .2)))
-      (tasks-one ts (λ i j k i′ j′ k′ h g. let e = u (suc i) j k (suc i′) j′ k′ h g in (let a = e .0 in omega arith, e .1, e .2)))
-      (λ h g. let r = frames-some (t .frames) h in let s = tasks-some ts g in let e = u 0 (r .0) (r .1) (suc (s .0)) (s .1) (s .2) (r .2) (s .3) .0 in omega arith)
+        (frames-one (t .frames) (λ j k j′ k′ h g. let e = u 0 j k 0 j′ k′ h g in (e .1, e .2)))
+        (tasks-one ts (λ i j k i′ j′ k′ h g. let e = u (suc i) j k (suc i′) j′ k′ h g in (let a = e .0 in omega arith, e .1, e .2)))
+        (λ h g. let r = frames-some (t .frames) h in let s = tasks-some ts g in let e = u 0 (r .0) (r .1) (suc (s .0)) (s .1) (s .2) (r .2) (s .3) .0 in omega arith)
 
 -- no pair of threads
 module _ (p : Program) (m : Store) where
@@ -139,5 +139,5 @@ module _ (p : Program) (m : Store) where
   pub clash-none : (k : ℕ) (ts : List Task) → ((a b : ℕ) (t u : ℕ × ℕ) → touch p m (getD ts a no-task) ≡ Some t → touch p m (getD ts b no-task) ≡ Some u → t .0 ≡ u .0 → a ≡ b) → clash-from p m k ts ≡ None
   clash-none k [] h = refl
   clash-none k (t ∷ ts) h =
-    ap (λ (c : Option Clash). or-else c (clash-from p m (suc k) ts)) (first-none k (touch p m t) (suc k) ts (λ w e b u f q. let z = h 0 (suc b) w u e f q in omega arith))
+      ap (λ (c : Option Clash). or-else c (clash-from p m (suc k) ts)) (first-none k (touch p m t) (suc k) ts (λ w e b u f q. let z = h 0 (suc b) w u e f q in omega arith))
       ∙ clash-none (suc k) ts (λ a b w u e f q. let z = h (suc a) (suc b) w u e f q in omega arith)

@@ -1,14 +1,12 @@
 -- Chains of changes: of slots, and of the memory under the ghost flags.
-use mathlib.Core.Path.{_≡_, refl, sym, ap, ap₂, subst, _∙_, fun-ext}
-use mathlib.Core.Bool.{Bool, true, false}
-use mathlib.Core.List.{List, [], _∷_}
-use mathlib.Core.Logic.{_⊎_, inl, inr}
-use Prim.Native.Nat.{ℕ, suc, zero, _<_, _≤_}
+use mathlib.Core.Path.{_≡_, refl, sym, ap, _∙_, fun-ext}
+use mathlib.Core.Bool.{Bool}
+use Prim.Native.Nat.{ℕ}
 use native.Mathlib.Decide.{ℕ-discrete}
-use Rattle.safety.specs.Model.{Cell, Heap, Slots, Spot, Entry, out, here, Place, at, cell, spot?, place?, put, wr, choose}
+use Rattle.safety.specs.Model.{Cell, Heap, Slots, Spot, Entry, out, cell, place?, put, wr, choose}
 use Rattle.safety.specs.Fields.{zeroed, grow}
 use Rattle.safety.specs.Step.{Mem, poke, added, erase}
-use Rattle.safety.proofs.Update.{put-at, put-off, wr-at, wr-off, choose-yes, choose-no}
+use Rattle.safety.proofs.Update.{put-at, put-off, wr-at, wr-off}
 use Rattle.safety.proofs.Scope.{put-ind}
 
 pub put-put : (σ : Slots) (z : Spot) (a b : Entry) → put (put σ z a) z b ≡ put σ z b
@@ -39,17 +37,25 @@ pub off : (H : Heap) (p f : ℕ) → Off H (erase H) p f
 off H p f = record { sizes = refl; kinds = λ o. refl; words = λ o h n. refl; marks = λ o h n. refl }
 
 pub off-wr : (H : Heap) (R : Mem) (p f : ℕ) (c : Cell) → Off H R p f → Off (wr H p f c) R p f
-off-wr H R p f c k = record { sizes = k .sizes; kinds = k .kinds;
+off-wr H R p f c k = record {
+  sizes = k .sizes;
+  kinds = k .kinds;
   words = λ o h n. ap (λ (x : Cell). x .word) (wr-off H p f c o h n) ∙ k .words o h n;
-  marks = λ o h n. ap (λ (x : Cell). x .mark) (wr-off H p f c o h n) ∙ k .marks o h n }
+  marks = λ o h n. ap (λ (x : Cell). x .mark) (wr-off H p f c o h n) ∙ k .marks o h n;
+}
 
 pub off-ghost : (H : Heap) (R : Mem) (p f q g : ℕ) (c : Cell) → Off H R p f → c .word ≡ R .word q g → c .mark ≡ R .mark q g → Off (wr H q g c) R p f
-off-ghost H R p f q g c k ew em = record { sizes = k .sizes; kinds = k .kinds;
-    words = λ o h n. word′ o h n (place? (cell o h) (cell q g)); marks = λ o h n. mark′ o h n (place? (cell o h) (cell q g)) }
+off-ghost H R p f q g c k ew em = record {
+  sizes = k .sizes;
+  kinds = k .kinds;
+  words = λ o h n. word′ o h n (place? (cell o h) (cell q g));
+  marks = λ o h n. mark′ o h n (place? (cell o h) (cell q g));
+}
   where
     word′ : (o h : ℕ) → ¬ (cell o h ≡ cell p f) → Dec (cell o h ≡ cell q g) → wr H q g c .mem o h .word ≡ R .word o h
     word′ o h n (yes e) = let a : o ≡ q = cc in let b : h ≡ g = cc in rw (a, b) (ap (λ (x : Cell). x .word) (wr-at H q g c) ∙ ew)
     word′ o h n (no m) = ap (λ (x : Cell). x .word) (wr-off H q g c o h m) ∙ k .words o h n
+
     mark′ : (o h : ℕ) → ¬ (cell o h ≡ cell p f) → Dec (cell o h ≡ cell q g) → wr H q g c .mem o h .mark ≡ R .mark o h
     mark′ o h n (yes e) = let a : o ≡ q = cc in let b : h ≡ g = cc in rw (a, b) (ap (λ (x : Cell). x .mark) (wr-at H q g c) ∙ em)
     mark′ o h n (no m) = ap (λ (x : Cell). x .mark) (wr-off H q g c o h m) ∙ k .marks o h n
@@ -60,10 +66,11 @@ erase-wr H R p f c n m k en em = mem-path (erase (wr H p f c)) (poke R p f n m) 
     w : (o h : ℕ) (d : Dec (cell o h ≡ cell p f)) → (choose d c (H .mem o h)) .word ≡ choose d n (R .word o h)
     w o h (yes e) = en
     w o h (no x) = k .words o h x
+
     r : (o h : ℕ) (d : Dec (cell o h ≡ cell p f)) → (choose d c (H .mem o h)) .mark ≡ choose d m (R .mark o h)
     r o h (yes e) = em
     r o h (no x) = k .marks o h x
 
 pub erase-grow : (H : Heap) (s : ℕ) → erase (grow H s) ≡ added (erase H) s
 erase-grow H s = mem-path (erase (grow H s)) (added (erase H) s) refl (λ o. refl)
-  (λ o f. choose-ap (ℕ-discrete o (H .size)) (λ (x : Cell). x .word) zeroed (H .mem o f)) (λ o f. choose-ap (ℕ-discrete o (H .size)) (λ (x : Cell). x .mark) zeroed (H .mem o f))
+    (λ o f. choose-ap (ℕ-discrete o (H .size)) (λ (x : Cell). x .word) zeroed (H .mem o f)) (λ o f. choose-ap (ℕ-discrete o (H .size)) (λ (x : Cell). x .mark) zeroed (H .mem o f))

@@ -1,17 +1,14 @@
 -- Flow, and what a cell's content and a stored value have.
-use mathlib.Core.Path.{_≡_, refl, sym, ap, subst, _∙_}
-use mathlib.Core.Bool.{Bool, true, false}
+use mathlib.Core.Path.{_≡_, refl, sym, _∙_}
+use mathlib.Core.Bool.{false}
 use mathlib.Core.List.{List, [], _∷_}
-use mathlib.Core.Logic.{_⊎_, inl, inr}
-use Prim.Native.Nat.{ℕ, suc, zero, _<_, _≤_, _/_, _%_, _^_}
+use Prim.Native.Nat.{ℕ, suc, zero, _<_, _≤_, _/_, _^_}
 use native.Mathlib.Omega.{arith}
-use Rattle.table.specs.declared.types.Mode.the-variants.{Var, Val, Once, Spec}
 use Rattle.machine.specs.declared.threads.Slot.{Slot}
 use Rattle.machine.specs.declared.threads.Slot.the-variants.{Empty, Null, Number, Reference}
 use Rattle.machine.specs.Values.{reference-of, word-of}
-use Rattle.safety.specs.Model.{Right, alias, owned, pristine, Claim, num, pt, Content, fnum, falias, fowned, Structs, Cell, Heap, Slots, Spot, Entry, out, here, nameOf, rank, ownTy, prisTy, nameE, ownE, prisE, nameC, ownC, structOf, modeAt, fieldAt, Stable, Dead, Obj, Part, Conf, Saved, EntryOK, CellOK, Has}
-use Rattle.safety.specs.Fields.{Within, Flows, FlowK, tyOf, lent, valOf, spent}
-use Rattle.safety.proofs.Update.{not-both}
+use Rattle.safety.specs.Model.{Right, alias, owned, pristine, Claim, num, pt, Content, fnum, falias, fowned, Structs, Cell, Heap, here, nameOf, rank, ownTy, prisTy, nameC, ownC, structOf, fieldAt, Stable, Dead, Part, Conf, Saved, EntryOK, CellOK, Has}
+use Rattle.safety.specs.Fields.{Flows, FlowK, tyOf, lent, valOf}
 
 pub has-none : (f : ℕ) → Has 0 f → ⊥
 has-none f h = let e : (0 / 2 ^ f) ≡ 0 = omega arith in omega arith
@@ -90,8 +87,8 @@ word-name (Reference o) h = refl
 module _ (St : Structs) where
   part-flow : (H : Heap) (o : ℕ) (k k′ : Right) (w w′ : ℕ) → Part St H o w k → FlowK k k′ w w′ → Part St H o w′ k′
   part-flow H o pristine pristine w w′ c f = (c .0, λ g d. rw (← f) (c .1 g d))
-  part-flow H o pristine owned w w′ c f = 
-    (λ g h. absurd (has-none g (rw (f .1) at h)), λ g d. absurd (has-none g (rw (f .0) at (c .1 g d))))
+  part-flow H o pristine owned w w′ c f =
+      (λ g h. absurd (has-none g (rw (f .1) at h)), λ g d. absurd (has-none g (rw (f .0) at (c .1 g d))))
   part-flow H o pristine alias w w′ c f = absurd f
   part-flow H o owned pristine w w′ c f = absurd f
   part-flow H o owned owned w w′ c f = (λ g h. c .0 g (rw f h), λ g d. rw (← f) (c .1 g d))
@@ -144,9 +141,10 @@ module _ (St : Structs) where
     where
       own-live : (s : ℕ) (b : Cell) (q : ℕ) → b .dead ≡ false → b .word ≡ suc q → ownC (fowned s) b ≡ suc q
       own-live s b q e h = rw e h
+
       go : (T : Content) (b : Cell) (n : ℕ) → b .word ≡ n → b .dead ≡ false
-        → ((q : ℕ) → nameC T b ≡ suc q → (q < H .size) × (H .kind q ≡ structOf T) × ((g : ℕ) → Dead St H q g → Stable St H q g))
-        → ((q : ℕ) → ownC T b ≡ suc q → (g : ℕ) → Dead St H q g → ⊥) → Conf St H (valOf T n) (tyOf T)
+          → ((q : ℕ) → nameC T b ≡ suc q → (q < H .size) × (H .kind q ≡ structOf T) × ((g : ℕ) → Dead St H q g → Stable St H q g))
+          → ((q : ℕ) → ownC T b ≡ suc q → (g : ℕ) → Dead St H q g → ⊥) → Conf St H (valOf T n) (tyOf T)
       go fnum b n e d pts whl = tt
       go (falias s) b zero e d pts whl = tt
       go (falias s) b (suc q) e d pts whl = record { low = pts q e .0; struct = pts q e .1; part = (λ g h. absurd (has-none g h), pts q e .2) }
@@ -158,8 +156,8 @@ module _ (St : Structs) where
   read-conf H p f c = go (fieldAt St H p f) (H .mem p f) (H .mem p f .word) refl (c .points)
     where
       go : (T : Content) (b : Cell) (n : ℕ) → b .word ≡ n
-        → ((q : ℕ) → nameC T b ≡ suc q → (q < H .size) × (H .kind q ≡ structOf T) × ((g : ℕ) → Dead St H q g → Stable St H q g))
-        → Conf St H (valOf T n) (lent T)
+          → ((q : ℕ) → nameC T b ≡ suc q → (q < H .size) × (H .kind q ≡ structOf T) × ((g : ℕ) → Dead St H q g → Stable St H q g))
+          → Conf St H (valOf T n) (lent T)
       go fnum b n e pts = tt
       go (falias s) b zero e pts = tt
       go (falias s) b (suc q) e pts = record { low = pts q e .0; struct = pts q e .1; part = (λ g h. absurd (has-none g h), pts q e .2) }
@@ -168,13 +166,14 @@ module _ (St : Structs) where
 
   -- what a stored value gives its cell
   pub store-points : (H : Heap) (T : Content) (b : Cell) (v : Slot) (k : Right) (w : ℕ) → b .word ≡ word-of v → Conf St H v (pt k (structOf T) w) → ((o : ℕ) → Part St H o w k → (g : ℕ) → Dead St H o g → Stable St H o g)
-    → (q : ℕ) → nameC T b ≡ suc q → (q < H .size) × (H .kind q ≡ structOf T) × ((g : ℕ) → Dead St H q g → Stable St H q g)
+      → (q : ℕ) → nameC T b ≡ suc q → (q < H .size) × (H .kind q ≡ structOf T) × ((g : ℕ) → Dead St H q g → Stable St H q g)
   store-points H T b v k w e c st q h = go v T (name-word T h) c
     where
       name-word : (T : Content) → nameC T b ≡ suc q → word-of v ≡ suc q
       name-word fnum h = let z : ⊥ = omega arith in absurd z
       name-word (falias s) h = sym e ∙ h
       name-word (fowned s) h = sym e ∙ h
+
       go : (v : Slot) (T : Content) → word-of v ≡ suc q → Conf St H v (pt k (structOf T) w) → (q < H .size) × (H .kind q ≡ structOf T) × ((g : ℕ) → Dead St H q g → Stable St H q g)
       go Empty T h c = absurd c
       go Null T h c = let z : ⊥ = omega arith in absurd z

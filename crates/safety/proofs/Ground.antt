@@ -196,4 +196,4 @@ module _ (p : Program) (m : Store) (v : Slot) where
 
     pub of-field : (f : ℕ) (P : Field → Bool) → P (declared p s f) ≡ true → where-field p m v f (P (field p m v f)) ≡ true
     of-field f P h = where-true (cond (ltb f (length (fields p m v))) (P (field p m v f)) true)
-      (λ o e. either-true (ltb f (length (fields p m v))) (P (field p m v f)) (ap P (field-is o e s f (struct-is o e k s w fits .1)) ∙ h))
+        (λ o e. either-true (ltb f (length (fields p m v))) (P (field p m v f)) (ap P (field-is o e s f (struct-is o e k s w fits .1)) ∙ h))

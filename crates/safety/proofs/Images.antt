@@ -20,7 +20,7 @@ abbrev pub mem : Store → Mem
 mem m = record { size = countOf m; kind = λ o. objectAt m o .kind; word = λ o f. cellAt m o f .word; mark = λ o f. cellAt m o f .mark }
 
 same-mem : (a a′ : ℕ) (b b′ : ℕ → ℕ) (c c′ : ℕ → ℕ → ℕ) (d d′ : ℕ → ℕ → Bool) → a ≡ a′ → b ≡ b′ → c ≡ c′ → d ≡ d′
-  → _≡_ {A = Mem} (record { size = a; kind = b; word = c; mark = d }) (record { size = a′; kind = b′; word = c′; mark = d′ })
+    → _≡_ {A = Mem} (record { size = a; kind = b; word = c; mark = d }) (record { size = a′; kind = b′; word = c′; mark = d′ })
 same-mem a a′ b b′ c c′ d d′ p q r s = cc
 
 pub push-off : {X : Type 0} (xs : List X) (x d : X) (o : ℕ) → ¬ (o ≡ length xs) → getD (xs ++ (x ∷ [])) o d ≡ getD xs o d
@@ -68,10 +68,10 @@ module _ (m : Store) (s : ℕ) where
   pub mem-added : mem (withObject m s) ≡ St.added (mem m) s
   unfolding new
   mem-added = same-mem _ _ _ _ _ _ _ _
-    (let e = length-push (m .objects) new in omega arith)
-    (fun-ext (λ o. kinds o (ℕ-discrete o (countOf m))))
-    (fun-ext (λ o. fun-ext (λ f. ap (λ (c : Cell). c .word) (all-cells o f (ℕ-discrete o (countOf m))) ∙ word-choose o f (ℕ-discrete o (countOf m)))))
-    (fun-ext (λ o. fun-ext (λ f. ap (λ (c : Cell). c .mark) (all-cells o f (ℕ-discrete o (countOf m))) ∙ mark-choose o f (ℕ-discrete o (countOf m)))))
+      (let e = length-push (m .objects) new in omega arith)
+      (fun-ext (λ o. kinds o (ℕ-discrete o (countOf m))))
+      (fun-ext (λ o. fun-ext (λ f. ap (λ (c : Cell). c .word) (all-cells o f (ℕ-discrete o (countOf m))) ∙ word-choose o f (ℕ-discrete o (countOf m)))))
+      (fun-ext (λ o. fun-ext (λ f. ap (λ (c : Cell). c .mark) (all-cells o f (ℕ-discrete o (countOf m))) ∙ mark-choose o f (ℕ-discrete o (countOf m)))))
 
 -- a cell written, as the core has it
 module _ (m : Store) (p f n : ℕ) (k : Bool) (low : p < countOf m) (wide : f < length (objectAt m p .cells)) where
@@ -105,8 +105,8 @@ module _ (m : Store) (p f n : ℕ) (k : Bool) (low : p < countOf m) (wide : f < 
     where
       go : Dec (o ≡ p) → cellAt (stored m p f n k) o h ≡ cellAt m o h
       go (no c) = ap (λ (q : Object). getD (q .cells) h (plain 0)) (off-object o c)
-      go (yes a) = 
-        ap (λ (x : ℕ). cellAt (stored m p f n k) x h) a ∙ ap (λ (q : Object). getD (q .cells) h (plain 0)) at-object
+      go (yes a) =
+          ap (λ (x : ℕ). cellAt (stored m p f n k) x h) a ∙ ap (λ (q : Object). getD (q .cells) h (plain 0)) at-object
           ∙ getD-set-other (objectAt m p .cells) f h new-cell (plain 0) (λ b. d (ap₂ (λ (x y : ℕ). C.cell x y) a b)) ∙ ap (λ (x : ℕ). cellAt m x h) (sym a)
 
   word-of : (o h : ℕ) (d : Dec (C.cell o h ≡ C.cell p f)) → choose d new-cell (cellAt m o h) .word ≡ choose d n (cellAt m o h .word)
@@ -122,10 +122,10 @@ module _ (m : Store) (p f n : ℕ) (k : Bool) (low : p < countOf m) (wide : f < 
   pub mem-stored : mem (stored m p f n k) ≡ poke (mem m) p f n k
   unfolding new-object new-cell
   mem-stored = same-mem _ _ _ _ _ _ _ _
-    (length-set (m .objects) p new-object)
-    (fun-ext (λ o. kind-kept o (ℕ-discrete o p)))
-    (fun-ext (λ o. fun-ext (λ h. ap (λ (c : Cell). c .word) (cell-at o h (place? (C.cell o h) (C.cell p f))) ∙ word-of o h (place? (C.cell o h) (C.cell p f)))))
-    (fun-ext (λ o. fun-ext (λ h. ap (λ (c : Cell). c .mark) (cell-at o h (place? (C.cell o h) (C.cell p f))) ∙ mark-of o h (place? (C.cell o h) (C.cell p f)))))
+      (length-set (m .objects) p new-object)
+      (fun-ext (λ o. kind-kept o (ℕ-discrete o p)))
+      (fun-ext (λ o. fun-ext (λ h. ap (λ (c : Cell). c .word) (cell-at o h (place? (C.cell o h) (C.cell p f))) ∙ word-of o h (place? (C.cell o h) (C.cell p f)))))
+      (fun-ext (λ o. fun-ext (λ h. ap (λ (c : Cell). c .mark) (cell-at o h (place? (C.cell o h) (C.cell p f))) ∙ mark-of o h (place? (C.cell o h) (C.cell p f)))))
 
 -- every object has eight cells, and keeps them
 abbrev pub Whole : Store → Type 0
@@ -137,18 +137,19 @@ whole-added m s h o l = go (ℕ-discrete o (countOf m))
     go : Dec (o ≡ countOf m) → length (objectAt (withObject m s) o .cells) ≡ 8
     go (yes e) = ap (λ (q : ℕ). length (objectAt (withObject m s) q .cells)) e ∙ ap (λ (q : Object). length (q .cells)) (getD-push (m .objects) (record { kind = s; cells = replicate 8 (plain 0) }) (record { kind = 0; cells = [] }) (countOf m) refl)
     go (no n) = ap (λ (q : Object). length (q .cells)) (push-off (m .objects) (record { kind = s; cells = replicate 8 (plain 0) }) (record { kind = 0; cells = [] }) o n)
-      ∙ h o (let e = length-push (m .objects) (record { kind = s; cells = replicate 8 (plain 0) }) in omega arith)
+        ∙ h o (let e = length-push (m .objects) (record { kind = s; cells = replicate 8 (plain 0) }) in omega arith)
 
 pub whole-stored : (m : Store) (p f n : ℕ) (k : Bool) → p < countOf m → Whole m → Whole (stored m p f n k)
 whole-stored m p f n k low h o l = go (ℕ-discrete o p)
   where
     new-object : Object
     new-object = record { kind = objectAt m p .kind; cells = set (objectAt m p .cells) f (record { word = n; mark = k }) }
+
     go : Dec (o ≡ p) → length (objectAt (stored m p f n k) o .cells) ≡ 8
     go (yes e) = ap (λ (q : ℕ). length (objectAt (stored m p f n k) q .cells)) e ∙ ap (λ (q : Object). length (q .cells)) (getD-set-same (m .objects) p new-object (record { kind = 0; cells = [] }) low)
-      ∙ length-set (objectAt m p .cells) f (record { word = n; mark = k }) ∙ h p low
+        ∙ length-set (objectAt m p .cells) f (record { word = n; mark = k }) ∙ h p low
     go (no d) = ap (λ (q : Object). length (q .cells)) (getD-set-other (m .objects) p o new-object (record { kind = 0; cells = [] }) d)
-      ∙ h o (let e = length-set (m .objects) p new-object in omega arith)
+        ∙ h o (let e = length-set (m .objects) p new-object in omega arith)
 
 -- no object
 pub mem-empty : (m : Store) → countOf m ≡ 0 → mem m ≡ void

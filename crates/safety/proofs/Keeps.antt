@@ -1,24 +1,21 @@
 -- Every step keeps the invariant, so every run does.
 use mathlib.Core.Path.{_≡_, refl, sym, ap, subst, _∙_}
-use mathlib.Core.Bool.{Bool, true, false}
-use mathlib.Core.List.{List, [], _∷_}
-use mathlib.Core.Logic.{_⊎_, inl, inr}
-use Prim.Native.Nat.{ℕ, suc, zero, _<_, _≤_, _+_}
+use mathlib.Core.Bool.{false}
+use mathlib.Core.Logic.{inr}
+use Prim.Native.Nat.{ℕ, suc}
 use native.Mathlib.Omega.{arith}
-use native.Mathlib.Decide.{ℕ-discrete}
 use Rattle.machine.specs.declared.threads.Slot.{Slot}
 use Rattle.machine.specs.declared.threads.Slot.the-variants.{Empty, Null, Number, Reference}
-use Rattle.safety.specs.Model.{Right, alias, owned, pristine, Claim, num, pt, Content, fnum, falias, fowned, Structs, Cell, Heap, Slots, Spot, Entry, out, here, Place, at, cell, put, choose, nameOf, nameE, ownE, prisE, nameC, Conf, EntryOK, Inv, Obj}
+use Rattle.safety.specs.Model.{Claim, num, pt, Content, fnum, falias, fowned, Structs, Cell, Heap, Slots, Spot, out, here, Place, at, cell, ownE, prisE, nameC, Conf, Inv}
 use Rattle.safety.specs.Fields.{zeroed, grow}
-use Rattle.safety.specs.Step.{Mem, erase, shared, Sound, Step, Run, done, more, do-int, do-null, do-new, do-share, do-get, do-give, do-lend, do-fall, do-take, do-set, do-tentative, do-swap, do-unlink, do-unlink-alias, do-link, do-try, do-fix, do-stable}
-use Rattle.safety.specs.Kept.{blank, void, owners, Missing, Distinct, Fits, Kept, Ownership}
+use Rattle.safety.specs.Step.{Mem, erase, shared, Sound, Step, do-int, do-null, do-new, do-share, do-get, do-give, do-lend, do-fall, do-take, do-set, do-tentative, do-swap, do-unlink, do-unlink-alias, do-link, do-try, do-fix, do-stable}
+use Rattle.safety.specs.Kept.{blank, void, Fits, Kept}
 use Rattle.safety.proofs.Update.{at-inj}
 use Rattle.safety.proofs.New.{new, zero-cell, own-zeroed}
 use Rattle.safety.proofs.Erase.{erase-grow}
 use Rattle.safety.proofs.Cells.{not-cell-at}
 use Rattle.safety.proofs.Ops as O
 use Rattle.safety.proofs.Hand as D
-
 
 module _ (St : Structs) where
   -- one step, from the memory under a ghost heap
@@ -50,30 +47,10 @@ module _ (St : Structs) where
     where
       G : Heap
       G = record { size = 0; kind = λ o. 0; mem = λ o f. zeroed }
+
       un : (p q : Place) (o : ℕ) → Rattle.safety.specs.Model.own St blank G p ≡ suc o → Rattle.safety.specs.Model.own St blank G q ≡ suc o → p ≡ q
       un (at s) q o h j = let z : ⊥ = omega arith in absurd z
       un (cell p f) q o h j = let i = own-zeroed (St .field 0 f) in let z : ⊥ = omega arith in absurd z
-
-  pub runs : (σ σ′ : Slots) (R R′ : Mem) → Run St σ R σ′ R′ → Sound St σ R → Sound St σ′ R′
-  runs σ σ′ R R′ done s = s
-  runs σ σ′ R R′ (more {σ′ = τ} {R′ = Q} r t et st) s = keeps τ σ′ Q R′ t et st (runs σ τ R Q r s)
-
--- at most one of some slots owns
-no-frame : (σ : Slots) (o : ℕ) (x : Spot) (l : List Spot) → Missing x l → ((y : Spot) → ownE (σ y) ≡ suc o → y ≡ x) → owners σ o l ≡ 0
-no-frame σ o x [] m u = refl
-no-frame σ o x (y ∷ l) m u = let r : owners σ o l ≡ 0 = no-frame σ o x l (m .1) u in go (ℕ-discrete (ownE (σ y)) (suc o)) r
-  where
-    go : (d : Dec (ownE (σ y) ≡ suc o)) → owners σ o l ≡ 0 → choose d 1 0 + owners σ o l ≡ 0
-    go (yes e) r = absurd (m .0 (sym (u y e)))
-    go (no n) r = omega arith
-
-one : (σ : Slots) (o : ℕ) (l : List Spot) → Distinct l → ((x y : Spot) → ownE (σ x) ≡ suc o → ownE (σ y) ≡ suc o → x ≡ y) → owners σ o l ≤ 1
-one σ o [] d u = omega arith
-one σ o (x ∷ l) d u = let r : owners σ o l ≤ 1 = one σ o l (d .1) u in go (ℕ-discrete (ownE (σ x)) (suc o)) r
-  where
-    go : (e : Dec (ownE (σ x) ≡ suc o)) → owners σ o l ≤ 1 → choose e 1 0 + owners σ o l ≤ 1
-    go (yes e) r = let z : owners σ o l ≡ 0 = no-frame σ o x l (d .0) (λ y h. u y x h e) in omega arith
-    go (no n) r = omega arith
 
 fits : (St : Structs) (H : Heap) (v : Slot) (t : Claim) → Conf St H v t → Fits (erase H) v t
 fits St H Empty t c = c
@@ -91,17 +68,15 @@ name-word (fowned s) c d e = e
 
 kept : (St : Structs) (σ : Slots) (H : Heap) → Inv St σ H → Kept St σ (erase H)
 kept St σ H inv = record {
-    one-owner = λ o l d. one σ o l d (λ x y. clash x y o);
-    no-clash = clash;
-    only-name = λ x y o s w ts ex h. at-inj (inv .sole x (at y) o (ap prisE ex) h);
-    no-field = λ x o s w ts ex p f h. not-cell-at (inv .sole x (cell p f) o (ap prisE ex) (name-word (St .field (H .kind p) f) (H .mem p f) (record { word = H .mem p f .word; mark = false; dead = false }) refl ∙ h));
-    fits = λ x v t ts ex. fits St H v t (O.at-slot St σ H x (here v t ts) inv ex .0) }
+  no-clash = clash;
+  only-name = λ x y o s w ts ex h. at-inj (inv .sole x (at y) o (ap prisE ex) h);
+  no-field = λ x o s w ts ex p f h. not-cell-at (inv .sole x (cell p f) o (ap prisE ex) (name-word (St .field (H .kind p) f) (H .mem p f) (record { word = H .mem p f .word; mark = false; dead = false }) refl ∙ h));
+  named = λ p f o h. inv .cells p f .points o (name-word (St .field (H .kind p) f) (H .mem p f) (record { word = H .mem p f .word; mark = false; dead = false }) refl ∙ h) .0;
+  fits = λ x v t ts ex. fits St H v t (O.at-slot St σ H x (here v t ts) inv ex .0);
+}
   where
     clash : (x y : Spot) (o : ℕ) → ownE (σ x) ≡ suc o → ownE (σ y) ≡ suc o → x ≡ y
     clash x y o h j = at-inj (inv .unique (at x) (at y) o h j)
 
 pub kept-sound : (St : Structs) (σ : Slots) (R : Mem) → Sound St σ R → Kept St σ R
 kept-sound St σ R s = subst (λ (a : Mem). Kept St σ a) (s .2) (kept St σ (s .0) (s .1))
-
-pub ownership : Ownership
-ownership St σ R r = kept-sound St σ R (runs St blank σ void R r (start-sound St))

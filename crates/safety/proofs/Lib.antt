@@ -33,3 +33,6 @@ pub mod Counts
 pub mod Promise
 pub mod Notes
 pub mod Tables
+pub mod Ints
+pub mod Words
+pub mod References

@@ -1,22 +1,19 @@
 -- A change of a few slots of one frame, and the end of blocks with it: from the flat configuration to threads of frames.
-use mathlib.Core.Path.{_≡_, refl, sym, ap, ap₂, subst, _∙_, fun-ext}
-use mathlib.Core.Bool.{Bool, true, false}
-use mathlib.Core.List.{List, [], _∷_, _++_}
+use mathlib.Core.Path.{_≡_, refl, sym, ap, ap₂, subst, _∙_}
+use mathlib.Core.Bool.{false}
+use mathlib.Core.List.{List, [], _∷_}
 use mathlib.Core.Logic.{_⊎_, inl, inr}
-use Prim.Native.Nat.{ℕ, suc, zero, _<_, _≤_}
-use native.Mathlib.Omega.{arith}
+use Prim.Native.Nat.{ℕ, suc, zero, _<_}
 use native.Mathlib.Decide.{ℕ-discrete}
 use lib.ListN.{getD, set, length}
-use Rattle.table.specs.declared.types.Mode.{Mode}
-use Rattle.table.specs.declared.types.Mode.the-variants.{Var, Val, Once, Spec}
+use Rattle.table.specs.declared.types.Mode.the-variants.{Spec}
 use Rattle.machine.specs.declared.threads.Slot.{Slot}
-use Rattle.machine.specs.declared.threads.Slot.the-variants.{Empty, Null, Number, Reference}
+use Rattle.machine.specs.declared.threads.Slot.the-variants.{Reference}
 use Rattle.machine.specs.Values.{word-of}
 use Rattle.machine.specs.declared.threads.Frame.{Frame}
-use Rattle.machine.specs.World.{no-frame}
-use Rattle.safety.specs.Model.{Right, alias, owned, pristine, Claim, num, pt, Content, Structs, Spot, spot, Slots, Entry, out, here, spot?, put, Heap, Inv, rank}
+use Rattle.safety.specs.Model.{Right, alias, Claim, pt, Content, Structs, Spot, spot, Slots, Entry, out, here, put}
 use Rattle.safety.specs.Fields.{Flows, tyOf, spent}
-use Rattle.safety.specs.Step.{Mem, poke, Sound, Step, Falls, ends, stays, pops, RefTo, Plain, modeOf, fieldOf, do-swap}
+use Rattle.safety.specs.Step.{Mem, poke, Sound, Falls, ends, stays, pops, RefTo, Plain, modeOf, fieldOf, do-swap}
 use Rattle.safety.specs.Threads.{Scopes, typed, entryAt, frameAt, putFrame, flat, Suffix, FallsSc}
 use Rattle.safety.proofs.Scope.{put-ind}
 use Rattle.safety.proofs.Ops as O
@@ -55,74 +52,85 @@ module _ (St : Structs) (S : Scopes) (M : List (List Frame)) (R : Mem) (i j : �
           apart : (¬ (a ≡ i)) ⊎ (¬ (b ≡ j)) → (l : ℕ) → ¬ (spot a b k ≡ spot i j l)
           apart (inl n) l e = n (cc)
           apart (inr n) l e = n (cc)
+
       go : Dec (a ≡ i) → Dec (b ≡ j) → Falls (flat S M (spot a b k)) (flat S (putFrame M i j F) (spot a b k))
       go (no n) d = same (inl n)
       go (yes e) (no n) = same (inr n)
-      go (yes e) (yes e′) = 
-        let q : spot a b k ≡ spot i j k = ap₂ (λ (x y : ℕ). spot x y k) e e′ in
-        subst (λ (s : Spot). Falls (flat S M s) (flat S (putFrame M i j F) s)) (sym q) (subst (λ (x : Entry). Falls (flat S M (spot i j k)) x) (sym (flat-same S M i j F hi hj k)) (h k (p k q)))
+      go (yes e) (yes e′) =
+          let q : spot a b k ≡ spot i j k = ap₂ (λ (x y : ℕ). spot x y k) e e′ in
+          subst (λ (s : Spot). Falls (flat S M s) (flat S (putFrame M i j F) s)) (sym q) (subst (λ (x : Entry). Falls (flat S M (spot i j k)) x) (sym (flat-same S M i j F hi hj k)) (h k (p k q)))
 
   at-last : (x : ℕ) (a : Entry) → Falls a (entryAt (F .slots) (S (F .function) (F .index)) x) → Falls a (flat S (putFrame M i j F) (spot i j x))
   at-last x a h = subst (λ (y : Entry). Falls a y) (sym (flat-same S M i j F hi hj x)) h
 
   pub lift₁ : (x : ℕ) (a : Entry) → Falls a (entryAt (F .slots) (S (F .function) (F .index)) x)
-    → ((k : ℕ) → ¬ (k ≡ x) → Falls (flat S M (spot i j k)) (entryAt (F .slots) (S (F .function) (F .index)) k))
-    → Sound St (put (flat S M) (spot i j x) a) R → Sound St (flat S (putFrame M i j F)) R
+      → ((k : ℕ) → ¬ (k ≡ x) → Falls (flat S M (spot i j k)) (entryAt (F .slots) (S (F .function) (F .index)) k))
+      → Sound St (put (flat S M) (spot i j x) a) R → Sound St (flat S (putFrame M i j F)) R
   lift₁ x a fa k s = sound-falls St (put (flat S M) (spot i j x) a) (flat S (putFrame M i j F)) R
-    (put-ind (λ s e. Falls e (flat S (putFrame M i j F) s)) (flat S M) (spot i j x) a (at-last x a fa)
+      (put-ind (λ s e. Falls e (flat S (putFrame M i j F) s)) (flat S M) (spot i j x) a (at-last x a fa)
       (λ s n. rest (λ l. ¬ (l ≡ x)) k s (λ l e q. n (e ∙ ap (λ (y : ℕ). spot i j y) q)))) s
 
   pub lift₂ : (x y : ℕ) (a b : Entry) → Falls a (entryAt (F .slots) (S (F .function) (F .index)) x) → Falls b (entryAt (F .slots) (S (F .function) (F .index)) y)
-    → ((k : ℕ) → ¬ (k ≡ x) → ¬ (k ≡ y) → Falls (flat S M (spot i j k)) (entryAt (F .slots) (S (F .function) (F .index)) k))
-    → Sound St (put (put (flat S M) (spot i j x) a) (spot i j y) b) R → Sound St (flat S (putFrame M i j F)) R
+      → ((k : ℕ) → ¬ (k ≡ x) → ¬ (k ≡ y) → Falls (flat S M (spot i j k)) (entryAt (F .slots) (S (F .function) (F .index)) k))
+      → Sound St (put (put (flat S M) (spot i j x) a) (spot i j y) b) R → Sound St (flat S (putFrame M i j F)) R
   lift₂ x y a b fa fb k s = sound-falls St (put (put (flat S M) (spot i j x) a) (spot i j y) b) (flat S (putFrame M i j F)) R
-    (put-ind (λ s e. Falls e (flat S (putFrame M i j F) s)) (put (flat S M) (spot i j x) a) (spot i j y) b (at-last y b fb)
+      (put-ind (λ s e. Falls e (flat S (putFrame M i j F) s)) (put (flat S M) (spot i j x) a) (spot i j y) b (at-last y b fb)
       (λ s n. put-ind (λ s e. ¬ (s ≡ spot i j y) → Falls e (flat S (putFrame M i j F) s)) (flat S M) (spot i j x) a (λ _. at-last x a fa)
-        (λ s m n. rest (λ l. ¬ (l ≡ x) × ¬ (l ≡ y)) (λ l q. k l (q .0) (q .1)) s (λ l e. (λ q. m (e ∙ ap (λ (y : ℕ). spot i j y) q), λ q. n (e ∙ ap (λ (y : ℕ). spot i j y) q)))) s n)) s
+      (λ s m n. rest (λ l. ¬ (l ≡ x) × ¬ (l ≡ y)) (λ l q. k l (q .0) (q .1)) s (λ l e. (λ q. m (e ∙ ap (λ (y : ℕ). spot i j y) q), λ q. n (e ∙ ap (λ (y : ℕ). spot i j y) q)))) s n)) s
 
   pub lift₃ : (x y z : ℕ) (a b c : Entry) → Falls a (entryAt (F .slots) (S (F .function) (F .index)) x) → Falls b (entryAt (F .slots) (S (F .function) (F .index)) y) → Falls c (entryAt (F .slots) (S (F .function) (F .index)) z)
-    → ((k : ℕ) → ¬ (k ≡ x) → ¬ (k ≡ y) → ¬ (k ≡ z) → Falls (flat S M (spot i j k)) (entryAt (F .slots) (S (F .function) (F .index)) k))
-    → Sound St (put (put (put (flat S M) (spot i j x) a) (spot i j y) b) (spot i j z) c) R → Sound St (flat S (putFrame M i j F)) R
+      → ((k : ℕ) → ¬ (k ≡ x) → ¬ (k ≡ y) → ¬ (k ≡ z) → Falls (flat S M (spot i j k)) (entryAt (F .slots) (S (F .function) (F .index)) k))
+      → Sound St (put (put (put (flat S M) (spot i j x) a) (spot i j y) b) (spot i j z) c) R → Sound St (flat S (putFrame M i j F)) R
   lift₃ x y z a b c fa fb fc k s = sound-falls St (put (put (put (flat S M) (spot i j x) a) (spot i j y) b) (spot i j z) c) (flat S (putFrame M i j F)) R
-    (put-ind (λ s e. Falls e (flat S (putFrame M i j F) s)) (put (put (flat S M) (spot i j x) a) (spot i j y) b) (spot i j z) c (at-last z c fc)
+      (put-ind (λ s e. Falls e (flat S (putFrame M i j F) s)) (put (put (flat S M) (spot i j x) a) (spot i j y) b) (spot i j z) c (at-last z c fc)
       (λ s o. put-ind (λ s e. ¬ (s ≡ spot i j z) → Falls e (flat S (putFrame M i j F) s)) (put (flat S M) (spot i j x) a) (spot i j y) b (λ _. at-last y b fb)
-        (λ s n o. put-ind (λ s e. ¬ (s ≡ spot i j y) → ¬ (s ≡ spot i j z) → Falls e (flat S (putFrame M i j F) s)) (flat S M) (spot i j x) a (λ _ _. at-last x a fa)
-          (λ s m n o. rest (λ l. ¬ (l ≡ x) × ¬ (l ≡ y) × ¬ (l ≡ z)) (λ l q. k l (q .0) (q .1) (q .2)) s 
-            (λ l e. (λ q. m (e ∙ ap (λ (y : ℕ). spot i j y) q), λ q. n (e ∙ ap (λ (y : ℕ). spot i j y) q), λ q. o (e ∙ ap (λ (y : ℕ). spot i j y) q)))) s n o) s o)) s
+      (λ s n o. put-ind (λ s e. ¬ (s ≡ spot i j y) → ¬ (s ≡ spot i j z) → Falls e (flat S (putFrame M i j F) s)) (flat S M) (spot i j x) a (λ _ _. at-last x a fa)
+      (λ s m n o. rest (λ l. ¬ (l ≡ x) × ¬ (l ≡ y) × ¬ (l ≡ z)) (λ l q. k l (q .0) (q .1) (q .2)) s
+      (λ l e. (λ q. m (e ∙ ap (λ (y : ℕ). spot i j y) q), λ q. n (e ∙ ap (λ (y : ℕ). spot i j y) q), λ q. o (e ∙ ap (λ (y : ℕ). spot i j y) q)))) s n o) s o)) s
 
 -- an example: the yes of swap, on threads of frames. The scope of the next record is that of this one, with T_f pushed on y, or falls from it
 pub swap-threads : (St : Structs) (S : Scopes) (M : List (List Frame)) (R : Mem) (i j x y w p f : ℕ) (k : Right) (s u s′ u′ : ℕ) (v v′ : Slot) (t : Claim) (xs ys ws : List Claim) (line′ : ℕ)
-  → i < length M → j < length (getD M i []) → ¬ (w ≡ y) → Plain k
-  → flat S M (spot i j x) ≡ here (Reference p) (pt k s u) xs → flat S M (spot i j y) ≡ here v (pt alias s′ u′) ys → flat S M (spot i j w) ≡ here v′ t ws
-  → modeOf St R p f ≡ Spec → RefTo (fieldOf St R p f) s′ → Flows t (tyOf (fieldOf St R p f)) → R .mark p f ≡ false → R .word p f ≡ word-of v
-  → FallsSc (set (S (frameAt M i j .function) (frameAt M i j .index)) y (tyOf (fieldOf St R p f) ∷ getD (S (frameAt M i j .function) (frameAt M i j .index)) y [])) (S (frameAt M i j .function) line′)
-  → (spare : Spot) → flat S M spare ≡ out
-  → Sound St (flat S M) R
-  → Sound St (flat S (putFrame M i j (record { function = frameAt M i j .function; index = line′; slots = set (frameAt M i j .slots) w (spent (fieldOf St R p f) v′) }))) (poke R p f (word-of v′) false)
+    → i < length M → j < length (getD M i []) → ¬ (w ≡ y) → Plain k
+    → flat S M (spot i j x) ≡ here (Reference p) (pt k s u) xs → flat S M (spot i j y) ≡ here v (pt alias s′ u′) ys → flat S M (spot i j w) ≡ here v′ t ws
+    → modeOf St R p f ≡ Spec → RefTo (fieldOf St R p f) s′ → Flows t (tyOf (fieldOf St R p f)) → R .mark p f ≡ false → R .word p f ≡ word-of v
+    → FallsSc (set (S (frameAt M i j .function) (frameAt M i j .index)) y (tyOf (fieldOf St R p f) ∷ getD (S (frameAt M i j .function) (frameAt M i j .index)) y [])) (S (frameAt M i j .function) line′)
+    → (spare : Spot) → flat S M spare ≡ out
+    → Sound St (flat S M) R
+    → Sound St (flat S (putFrame M i j (record { function = frameAt M i j .function; index = line′; slots = set (frameAt M i j .slots) w (spent (fieldOf St R p f) v′) }))) (poke R p f (word-of v′) false)
 swap-threads St S M R i j x y w p f k s u s′ u′ v v′ t xs ys ws line′ hi hj n h ex ey ew md rt fl m wd next spare es sound =
     lift₂ St S M (poke R p f (word-of v′) false) i j F hi hj y w a b fa fb others
-      (keeps St (flat S M) (put (put (flat S M) (spot i j y) a) (spot i j w) b) R (poke R p f (word-of v′) false) spare es
-        (do-swap (spot i j x) (spot i j y) (spot i j w) p f k s u s′ u′ v v′ t xs ys ws (λ e. n (cc)) h ex ey ew md rt fl m wd) sound)
+    (keeps St (flat S M) (put (put (flat S M) (spot i j y) a) (spot i j w) b) R (poke R p f (word-of v′) false) spare es
+    (do-swap (spot i j x) (spot i j y) (spot i j w) p f k s u s′ u′ v v′ t xs ys ws (λ e. n (cc)) h ex ey ew md rt fl m wd) sound)
   where
     vs : List Slot
     vs = frameAt M i j .slots
+
     sc : List (List Claim)
     sc = S (frameAt M i j .function) (frameAt M i j .index)
+
     T : Content
     T = fieldOf St R p f
+
     F : Frame
     F = record { function = frameAt M i j .function; index = line′; slots = set vs w (spent T v′) }
+
     a : Entry
     a = here v (tyOf T) (pt alias s′ u′ ∷ ys)
+
     b : Entry
     b = here (spent T v′) t ws
+
     res : List (List Claim)
     res = set sc y (tyOf T ∷ getD sc y [])
+
     at-res : (k : ℕ) (e : Entry) → entryAt (set vs w (spent T v′)) res k ≡ e → Falls e (entryAt (set vs w (spent T v′)) (S (frameAt M i j .function) line′) k)
     at-res k e q = subst (λ (z : Entry). Falls z (entryAt (set vs w (spent T v′)) (S (frameAt M i j .function) line′) k)) q (entry-falls (set vs w (spent T v′)) res (S (frameAt M i j .function) line′) next k)
+
     fa : Falls a (entryAt (set vs w (spent T v′)) (S (frameAt M i j .function) line′) y)
     fa = at-res y a (entry-val-off vs res w (spent T v′) y (λ e. n (sym e)) ∙ entry-push vs sc y v (pt alias s′ u′) (tyOf T) ys ey)
+
     fb : Falls b (entryAt (set vs w (spent T v′)) (S (frameAt M i j .function) line′) w)
     fb = at-res w b (entry-val vs res w v′ (spent T v′) t ws (entry-push-off vs sc y (tyOf T ∷ getD sc y []) w n ∙ ew))
+
     others : (k : ℕ) → ¬ (k ≡ y) → ¬ (k ≡ w) → Falls (entryAt vs sc k) (entryAt (set vs w (spent T v′)) (S (frameAt M i j .function) line′) k)
     others k ny nw = at-res k (entryAt vs sc k) (entry-val-off vs res w (spent T v′) k nw ∙ entry-push-off vs sc y (tyOf T ∷ getD sc y []) k ny)

@@ -1,14 +1,14 @@
 -- The sets of fields as masks: one bit, a bit put in, a bit taken out.
 use mathlib.Core.Path.{_≡_, refl, sym, ap, ap₂, subst, _∙_}
 use mathlib.Core.Logic.{_⊎_, inl, inr}
-use Prim.Native.Nat.{ℕ, suc, zero, _+_, _-_, _*_, _/_, _%_, _^_, _<_, _≤_}
+use Prim.Native.Nat.{ℕ, suc, zero, _+_, _-_, _*_, _/_, _%_, _^_, _<_}
 use native.Mathlib.Omega.{arith}
 use native.Mathlib.Nat.{div-eq-of-lt, div-self, mul-div-cancel, mod-lt}
-use lib.Bits.{bitAnd, bitOr, bitXor, or-shr, or-mod, xor-shr, xor-mod, shifted-even}
+use lib.Bits.{bitOr, bitXor, or-shr, or-mod, xor-shr, xor-mod, shifted-even}
 use lib.Pow.{pow-pos, pow-lt, pow-add}
 use Rattle.std.proofs.shelf.Tests.{cases-order}
 use Rattle.safety.specs.Model.{Has}
-use Rattle.safety.specs.Fields.{Within, With, Without, Alone}
+use Rattle.safety.specs.Fields.{With, Without, Alone}
 
 bit : ℕ → ℕ → ℕ
 bit w f = (w / 2 ^ f) % 2
@@ -29,8 +29,9 @@ pow-off g h n = go (cases-order h g)
   where
     above : (d : ℕ) → g ≡ suc d + h → (2 ^ g / 2 ^ h) % 2 ≡ 0
     above d e =
-      let a : 2 ^ g ≡ 2 ^ suc d * 2 ^ h = ap (λ (k : ℕ). 2 ^ k) e ∙ pow-add 2 (suc d) h in
-      ap (λ (k : ℕ). (k / 2 ^ h) % 2) a ∙ ap (λ (k : ℕ). k % 2) (mul-div-cancel (2 ^ suc d) (pow-pos h)) ∙ (let s : (1 * 2 ^ suc d) % 2 ≡ 0 = shifted-even 1 d in omega arith)
+        let a : 2 ^ g ≡ 2 ^ suc d * 2 ^ h = ap (λ (k : ℕ). 2 ^ k) e ∙ pow-add 2 (suc d) h in
+        ap (λ (k : ℕ). (k / 2 ^ h) % 2) a ∙ ap (λ (k : ℕ). k % 2) (mul-div-cancel (2 ^ suc d) (pow-pos h)) ∙ (let s : (1 * 2 ^ suc d) % 2 ≡ 0 = shifted-even 1 d in omega arith)
+
     go : (h ≡ g) ⊎ ((h < g) ⊎ (g < h)) → (2 ^ g / 2 ^ h) % 2 ≡ 0
     go (inl e) = absurd (n e)
     go (inr (inl l)) = above (g - h - 1) (omega arith)
@@ -89,6 +90,7 @@ with-or w f = record { kept = λ g h. keep g h (same-or-not g f); has = or-same 
     keep : (g : ℕ) → Has w g → (g ≡ f) ⊎ ¬ (g ≡ f) → Has (bitOr w (2 ^ f)) g
     keep g h (inl e) = subst (λ (k : ℕ). Has (bitOr w (2 ^ f)) k) (sym e) (or-same w f)
     keep g h (inr n) = or-other w f g n ∙ h
+
     only′ : (g : ℕ) → Has (bitOr w (2 ^ f)) g → (g ≡ f) ⊎ ¬ (g ≡ f) → Has w g ⊎ (g ≡ f)
     only′ g h (inl e) = inr e
     only′ g h (inr n) = inl (sym (or-other w f g n) ∙ h)
@@ -99,6 +101,7 @@ without-xor w f hf = record { within = λ g h. within′ g h (same-or-not g f); 
     within′ : (g : ℕ) → Has (bitXor w (2 ^ f)) g → (g ≡ f) ⊎ ¬ (g ≡ f) → Has w g
     within′ g h (inl e) = subst (λ (k : ℕ). Has w k) (sym e) hf
     within′ g h (inr n) = sym (xor-other w f g n) ∙ h
+
     kept′ : (g : ℕ) → Has w g → (g ≡ f) ⊎ ¬ (g ≡ f) → Has (bitXor w (2 ^ f)) g ⊎ (g ≡ f)
     kept′ g h (inl e) = inr e
     kept′ g h (inr n) = inl (xor-other w f g n ∙ h)

@@ -54,7 +54,7 @@ flow-kinds Pristine Pristine s s′ w w′ e h = (e, eqb-true w w′ h)
 
 pub flow-core : (t u : Ty) → flows t u ≡ true → Flows (core t) (core u)
 flow-core t u h = let a = and-parts (eqb (t .strukt) (u .strukt)) (flows-by (t .kind) (u .kind) (t .withheld) (u .withheld)) h in
-  flow-kinds (t .kind) (u .kind) (t .strukt) (u .strukt) (t .withheld) (u .withheld) (eqb-true (t .strukt) (u .strukt) (a .0)) (a .1)
+    flow-kinds (t .kind) (u .kind) (t .strukt) (u .strukt) (t .withheld) (u .withheld) (eqb-true (t .strukt) (u .strukt) (a .0)) (a .1)
 
 -- a field's type, by its kind
 ty-kinds : (k : Kind) (s w : ℕ) → is-pristine k ≡ false → w ≡ 0 → tyOf (field-by-kind k s) ≡ by-kind k s w
@@ -98,7 +98,7 @@ pub set-of : (ss : List (List Field)) (t : Ty) → keeps ss t ≡ true → set-f
 set-of ss t h = go (is-number (t .kind)) (and-parts _ _ h .1)
   where
     go : (b : Bool) → cond b (eqb (t .strukt) 0 && eqb (t .withheld) 0) (ltb (t .strukt) (length ss) && set-fits (t .kind) (getD ss (t .strukt) []) (t .withheld)) ≡ true
-      → set-fits (t .kind) (getD ss (t .strukt) []) (t .withheld) ≡ true ⊎ (t .withheld ≡ 0)
+        → set-fits (t .kind) (getD ss (t .strukt) []) (t .withheld) ≡ true ⊎ (t .withheld ≡ 0)
     go true k = inr (eqb-true _ _ (and-parts _ _ k .1))
     go false k = inl (and-parts _ _ k .1)
 
@@ -111,18 +111,19 @@ may-field ss t g h e = go (set-of ss t h)
 
 pub field-low : (ss : List (List Field)) (t : Ty) (g : ℕ) → keeps ss t ≡ true → Has (t .withheld) g → g < length (getD ss (t .strukt) [])
 field-low ss t g h e = elim (cases-lt g (length (getD ss (t .strukt) []))) [
-    inl l ↦ l
+  | inl l ↦ l
   | inr l ↦ absurd (never-withheld (t .kind) (subst (λ (x : Field). may-withhold (t .kind) x ≡ true) (getD-past (getD ss (t .strukt) []) g no-field l) (may-field ss t g h e)))
-  ]
+]
 
 pub without-core : (ss : List (List Field)) (t : Ty) (f : ℕ) → keeps ss t ≡ true → length (getD ss (t .strukt) []) ≤ 8 → f < 8 → Without (t .withheld) f (without (t .withheld) f)
 without-core ss t f h n l = record {
-    within = λ g e. eqb-true _ 1 (without-within (t .withheld) f g (eq-eqb _ 1 e));
-    lost = λ e. never (sym (without-lost (t .withheld) f l) ∙ eq-eqb _ 1 e);
-    kept = λ g e. elim (cases-eq f g) [
-        inl q ↦ inr (sym q)
-      | inr d ↦ inl (eqb-true _ 1 (without-kept (t .withheld) f g l (let a = field-low ss t g h e in omega arith) d (eq-eqb _ 1 e)))
-      ] }
+  within = λ g e. eqb-true _ 1 (without-within (t .withheld) f g (eq-eqb _ 1 e));
+  lost = λ e. never (sym (without-lost (t .withheld) f l) ∙ eq-eqb _ 1 e);
+  kept = λ g e. elim (cases-eq f g) [
+    | inl q ↦ inr (sym q)
+    | inr d ↦ inl (eqb-true _ 1 (without-kept (t .withheld) f g l (let a = field-low ss t g h e in omega arith) d (eq-eqb _ 1 e)))
+  ];
+}
 
 pub with-core : (w f : ℕ) → With w f (with w f)
 with-core w f = with-or w f

@@ -1,19 +1,18 @@
 -- A new object, with one pristine slot for its only name.
-use mathlib.Core.Path.{_≡_, refl, sym, ap, ap₂, subst, subst₂, _∙_}
+use mathlib.Core.Path.{_≡_, refl, sym, ap, ap₂, subst₂, _∙_}
 use mathlib.Core.Bool.{Bool, true, false}
-use mathlib.Core.List.{List, [], _∷_}
 use mathlib.Core.Logic.{_⊎_, inl, inr}
-use Prim.Native.Nat.{ℕ, suc, zero, _<_, _≤_}
+use Prim.Native.Nat.{ℕ, suc, _<_}
 use native.Mathlib.Omega.{arith}
 use native.Mathlib.Decide.{ℕ-discrete}
-use Rattle.table.specs.declared.types.Mode.the-variants.{Var, Val, Once, Spec}
+use Rattle.table.specs.declared.types.Mode.the-variants.{Val}
 use Rattle.machine.specs.declared.threads.Slot.{Slot}
 use Rattle.machine.specs.declared.threads.Slot.the-variants.{Empty, Null, Number, Reference}
-use Rattle.safety.specs.Model.{Right, alias, owned, pristine, Claim, num, pt, Content, fnum, falias, fowned, Structs, Cell, Heap, Slots, Spot, Entry, out, here, Place, at, cell, spot?, place?, put, wr, choose, nameOf, rank, ownTy, prisTy, nameE, ownE, prisE, nameC, ownC, structOf, modeAt, fieldAt, Stable, Dead, Obj, Part, Conf, Saved, EntryOK, CellOK, Inv, name, own, pris}
+use Rattle.safety.specs.Model.{alias, owned, pristine, Claim, num, pt, Content, fnum, falias, fowned, Structs, Cell, Heap, Slots, Spot, Entry, out, here, Place, at, cell, put, nameOf, ownTy, prisTy, nameE, ownE, prisE, nameC, ownC, fieldAt, Dead, Conf, EntryOK, CellOK, Inv, name, own, pris}
 use Rattle.safety.specs.Fields.{zeroed, grow, first}
-use Rattle.safety.proofs.Update.{put-at, put-off, at-inj, not-both, choose-yes, choose-no}
-use Rattle.safety.proofs.Places.{Unique, Sole, Sub, unique-new, sole-new}
-use Rattle.safety.proofs.Frame.{Grows, KeepA, KeepO, KeepP, entry-frame, cell-frame}
+use Rattle.safety.proofs.Update.{put-at, put-off, not-both, choose-yes, choose-no}
+use Rattle.safety.proofs.Places.{Sub, unique-new, sole-new}
+use Rattle.safety.proofs.Frame.{Grows, entry-frame, cell-frame}
 use Rattle.safety.proofs.Scope.{put-ind}
 
 pub name-zeroed : (T : Content) → nameC T zeroed ≡ 0
@@ -80,12 +79,13 @@ module _ (St : Structs) where
   pub zero-cell : (H : Heap) (p f : ℕ) → H .mem p f ≡ zeroed → CellOK St H p f
   zero-cell H p f e = record {
     points = λ q h. let i : nameC (fieldAt St H p f) (H .mem p f) ≡ 0 = ap (λ (k : Cell). nameC (fieldAt St H p f) k) e ∙ name-zeroed (fieldAt St H p f) in
-      let z : ⊥ = omega arith in absurd z;
+        let z : ⊥ = omega arith in absurd z;
     whole = λ q h g d. let i : ownC (fieldAt St H p f) (H .mem p f) ≡ 0 = ap (λ (k : Cell). ownC (fieldAt St H p f) k) e ∙ own-zeroed (fieldAt St H p f) in
-      omega arith;
+        omega arith;
     marked = λ h. absurd (not-both h (ap (λ (k : Cell). k .mark) e));
     fresh = λ h i. ap (λ (k : Cell). k .word) e;
-    dying = λ h. absurd (not-both h (ap (λ (k : Cell). k .dead) e)) }
+    dying = λ h. absurd (not-both h (ap (λ (k : Cell). k .dead) e));
+  }
 
   module _ (σ : Slots) (H : Heap) (z : Spot) (s : ℕ) (inv : Inv St σ H) where
     new-kind : grow H s .kind (H .size) ≡ s
@@ -107,7 +107,8 @@ module _ (St : Structs) where
     grows = record {
       more = omega arith;
       kinds = λ o l. old-kind o (apart o l);
-      stays = λ o g l x. subst₂ (λ (k : ℕ) (c : Cell). (St .mode k g ≡ Val) ⊎ (c .mark ≡ true)) (sym (old-kind o (apart o l))) (sym (old-mem o g (apart o l))) x }
+      stays = λ o g l x. subst₂ (λ (k : ℕ) (c : Cell). (St .mode k g ≡ Val) ⊎ (c .mark ≡ true)) (sym (old-kind o (apart o l))) (sym (old-mem o g (apart o l))) x;
+    }
 
     old-dead : (o g : ℕ) → Dead St (grow H s) o g → Dead St H o g
     old-dead o g d = go (ℕ-discrete o (H .size))
@@ -144,17 +145,18 @@ module _ (St : Structs) where
 
     pub new : Inv St (put σ z (first H s)) (grow H s)
     new = record {
-        slots = put-ind (λ t x. EntryOK St (grow H s) x) σ z (first H s)
+      slots = put-ind (λ t x. EntryOK St (grow H s) x) σ z (first H s)
           (record { low = omega arith; struct = new-kind; part = (λ f. ap (λ (k : Cell). k .mark) (new-mem f), λ f d. absurd (not-both d (ap (λ (k : Cell). k .dead) (new-mem f)))) }, tt)
           (λ t n. entry-frame St H (grow H s) grows (σ t) (inv .slots t) (λ o h g d. inl (old-dead o g d)) (λ o h g d. old-dead o g d) (λ o h g d. old-mark o g d));
-        cells = λ o f. cells′ o f (ℕ-discrete o (H .size));
-        unique = unique-new (own St σ H) (own St (put σ z (first H s)) (grow H s)) (at z) (H .size)
+      cells = λ o f. cells′ o f (ℕ-discrete o (H .size));
+      unique = unique-new (own St σ H) (own St (put σ z (first H s)) (grow H s)) (at z) (H .size)
           (ap ownE (put-at σ z (first H s))) off-own (λ r h. not-named r (own-name σ H r (H .size) h)) (inv .unique);
-        sole = sole-new (pris St σ) (pris St (put σ z (first H s))) (name St σ H) (name St (put σ z (first H s)) (grow H s)) z (H .size)
+      sole = sole-new (pris St σ) (pris St (put σ z (first H s))) (name St σ H) (name St (put σ z (first H s)) (grow H s)) z (H .size)
           (ap prisE (put-at σ z (first H s)))
           (λ t n. inr (ap prisE (put-off σ z (first H s) t n)))
           (ap nameE (put-at σ z (first H s))) off not-named
-          (λ t h. not-named (at t) (own-name σ H (at t) (H .size) (pris-own-e (σ t) (H .size) h))) (inv .sole) }
+          (λ t h. not-named (at t) (own-name σ H (at t) (H .size) (pris-own-e (σ t) (H .size) h))) (inv .sole);
+    }
       where
         cells′ : (o f : ℕ) → Dec (o ≡ H .size) → CellOK St (grow H s) o f
         cells′ o f (yes i) = zero-cell (grow H s) o f (rw i (new-mem f))

@@ -50,9 +50,9 @@ kind-same k k′ h = sym (kind-back k) ∙ ap kind-of (eqb-true (kind-byte k) (k
 
 core-same : (t u : Ty) → same t u ≡ true → core t ≡ core u
 core-same t u h =
-  let a = and-parts (eqb (kind-byte (t .kind)) (kind-byte (u .kind)) && eqb (t .strukt) (u .strukt)) (eqb (t .withheld) (u .withheld)) h in
-  let b = and-parts (eqb (kind-byte (t .kind)) (kind-byte (u .kind))) (eqb (t .strukt) (u .strukt)) (a .0) in
-  ap (λ (k : Kind). by-kind k (t .strukt) (t .withheld)) (kind-same (t .kind) (u .kind) (b .0)) ∙ ap₂ (λ (s w : ℕ). by-kind (u .kind) s w) (eqb-true _ _ (b .1)) (eqb-true _ _ (a .1))
+    let a = and-parts (eqb (kind-byte (t .kind)) (kind-byte (u .kind)) && eqb (t .strukt) (u .strukt)) (eqb (t .withheld) (u .withheld)) h in
+    let b = and-parts (eqb (kind-byte (t .kind)) (kind-byte (u .kind))) (eqb (t .strukt) (u .strukt)) (a .0) in
+    ap (λ (k : Kind). by-kind k (t .strukt) (t .withheld)) (kind-same (t .kind) (u .kind) (b .0)) ∙ ap₂ (λ (s w : ℕ). by-kind (u .kind) s w) (eqb-true _ _ (b .1)) (eqb-true _ _ (a .1))
 
 same-refl : (t : Ty) → same t t ≡ true
 same-refl t = rw (eq-eqb (kind-byte (t .kind)) (kind-byte (t .kind)) refl, eq-eqb (t .strukt) (t .strukt) refl, eq-eqb (t .withheld) (t .withheld) refl) refl
@@ -132,9 +132,9 @@ grown-notes : (ts : List Ty) (bs : List Block) (o : Option Ty) → Kept ts bs �
 grown-notes ts bs None k = refl
 grown-notes ts [] (Some t) k = ap stacks (entered-push ts t) ∙ stacks-push (entered ts) t
 grown-notes ts (b ∷ bs) (Some t) k =
-  let e = annotate-length (saved b) bs in
-  let g = grown-length (saved b) ts (k .0) in
-  ap stacks (over-push ts (annotate (saved b) bs) t (omega arith)) ∙ stacks-push (over ts (annotate (saved b) bs)) t
+    let e = annotate-length (saved b) bs in
+    let g = grown-length (saved b) ts (k .0) in
+    ap stacks (over-push ts (annotate (saved b) bs) t (omega arith)) ∙ stacks-push (over ts (annotate (saved b) bs)) t
 
 -- blocks that end
 abbrev state-stacks : State → List (List C.Claim)
@@ -142,28 +142,28 @@ state-stacks S = stacks (annotate (S .types) (S .blocks))
 
 back-falls : (ts : List Ty) (b : Block) (bs : List Block) → Kept ts (b ∷ bs) → FallsSc (stacks (annotate ts (b ∷ bs))) (stacks (annotate (saved b) bs))
 back-falls ts b bs k =
-  let e = annotate-length (saved b) bs in
-  let g = grown-length (saved b) ts (k .0) in
-  over-falls ts (annotate (saved b) bs) (omega arith)
+    let e = annotate-length (saved b) bs in
+    let g = grown-length (saved b) ts (k .0) in
+    over-falls ts (annotate (saved b) bs) (omega arith)
 
 turned : (s : List Ty) (b : Block) (bs : List Block) → saved b ≡ s → stacks (annotate s (b ∷ bs)) ≡ stacks (annotate s bs)
 turned s b bs e =
-  ap (λ (l : List Ty). stacks (over s (annotate l bs))) e ∙ ap (λ (l : List Ty). stacks (over l (annotate s bs))) (sym (current-annotate s bs)) ∙ ap stacks (over-self (annotate s bs))
+    ap (λ (l : List Ty). stacks (over s (annotate l bs))) e ∙ ap (λ (l : List Ty). stacks (over l (annotate s bs))) (sym (current-annotate s bs)) ∙ ap stacks (over-self (annotate s bs))
 
 close-falls : (n : ℕ) (ts : List Ty) (bs : List Block) → Kept ts bs → FallsSc (stacks (annotate ts bs)) (state-stacks (close n ts bs))
 close-falls n ts [] k = falls-refl (stacks (annotate ts []))
 close-falls n ts (Yes c e s ∷ bs) k =
-  let deeper = close-falls n s bs (k .1) in
-  let here = back-falls ts (Yes c e s) bs k in
-  cond-both (eqb e n) (cond (eqb c 0) (close n s bs) (state s (No (n + c) s ∷ bs))) (state ts (Yes c e s ∷ bs)) (λ S. FallsSc (stacks (annotate ts (Yes c e s ∷ bs))) (state-stacks S))
+    let deeper = close-falls n s bs (k .1) in
+    let here = back-falls ts (Yes c e s) bs k in
+    cond-both (eqb e n) (cond (eqb c 0) (close n s bs) (state s (No (n + c) s ∷ bs))) (state ts (Yes c e s ∷ bs)) (λ S. FallsSc (stacks (annotate ts (Yes c e s ∷ bs))) (state-stacks S))
     (λ _. cond-both (eqb c 0) (close n s bs) (state s (No (n + c) s ∷ bs)) (λ S. FallsSc (stacks (annotate ts (Yes c e s ∷ bs))) (state-stacks S))
-      (λ _. falls-trans (stacks (annotate ts (Yes c e s ∷ bs))) (stacks (annotate s bs)) (state-stacks (close n s bs)) here deeper)
-      (λ _. subst⁻¹ (λ (l : List (List C.Claim)). FallsSc (stacks (annotate ts (Yes c e s ∷ bs))) l) (turned s (No (n + c) s) bs refl) here))
+    (λ _. falls-trans (stacks (annotate ts (Yes c e s ∷ bs))) (stacks (annotate s bs)) (state-stacks (close n s bs)) here deeper)
+    (λ _. subst⁻¹ (λ (l : List (List C.Claim)). FallsSc (stacks (annotate ts (Yes c e s ∷ bs))) l) (turned s (No (n + c) s) bs refl) here))
     (λ _. falls-refl (stacks (annotate ts (Yes c e s ∷ bs))))
 close-falls n ts (No e s ∷ bs) k =
-  let deeper = close-falls n s bs (k .1) in
-  let here = back-falls ts (No e s) bs k in
-  cond-both (eqb e n) (close n s bs) (state ts (No e s ∷ bs)) (λ S. FallsSc (stacks (annotate ts (No e s ∷ bs))) (state-stacks S))
+    let deeper = close-falls n s bs (k .1) in
+    let here = back-falls ts (No e s) bs k in
+    cond-both (eqb e n) (close n s bs) (state ts (No e s ∷ bs)) (λ S. FallsSc (stacks (annotate ts (No e s ∷ bs))) (state-stacks S))
     (λ _. falls-trans (stacks (annotate ts (No e s ∷ bs))) (stacks (annotate s bs)) (state-stacks (close n s bs)) here deeper)
     (λ _. falls-refl (stacks (annotate ts (No e s ∷ bs))))
 
@@ -173,9 +173,11 @@ yes-falls p fn ts bs b t e = go t
   where
     stay : FallsSc (stacks (annotate ts bs)) (stacks (annotate ts (b ∷ bs)))
     stay = subst⁻¹ (λ (l : List (List C.Claim)). FallsSc (stacks (annotate ts bs)) l) (turned ts b bs e) (falls-refl (stacks (annotate ts bs)))
+
     one : (y : ℕ) (u : Ty) → FallsSc (set (stacks (annotate ts bs)) y (core u ∷ getD (stacks (annotate ts bs)) y [])) (stacks (over (set ts y u) (annotate (saved b) bs)))
     one y u = subst⁻¹ (λ (l : List Ty). FallsSc (set (stacks (annotate ts bs)) y (core u ∷ getD (stacks (annotate ts bs)) y [])) (stacks (over (set ts y u) (annotate l bs)))) e
-      (subst (λ (l : List Ty). FallsSc (set (stacks (annotate ts bs)) y (core u ∷ getD (stacks (annotate ts bs)) y [])) (stacks (over (set l y u) (annotate ts bs)))) (current-annotate ts bs) (changed-falls (annotate ts bs) y u))
+        (subst (λ (l : List Ty). FallsSc (set (stacks (annotate ts bs)) y (core u ∷ getD (stacks (annotate ts bs)) y [])) (stacks (over (set l y u) (annotate ts bs)))) (current-annotate ts bs) (changed-falls (annotate ts bs) y u))
+
     go : (t : Test) → FallsSc (pushed (stacks (annotate ts bs)) (changes p fn ts t)) (stacks (annotate (yes-types p fn ts t) (b ∷ bs)))
     go (Nil x) = stay
     go (Same x y) = stay
@@ -204,57 +206,65 @@ module _ (p : Program) (formed : Formed p) (n : ℕ) (ok : Accepted p (callee p 
   kept i l = kept-at p fn formed ok i (omega arith)
 
   next-there : (i : ℕ) → i < length (fn .records) → placed (length (fn .records)) i (B i .blocks) Plain ≡ true → suc i < length (fn .records)
-  next-there i l h = 
-    let w = nested-at p fn ok i l in
-    go (B i .blocks) (w .0) (w .1) (or-cases _ _ h)
+  next-there i l h =
+      let w = nested-at p fn ok i l in
+      go (B i .blocks) (w .0) (w .1) (or-cases _ _ h)
     where
       go : (bs : List Block) → Nested (length (fn .records)) bs → i < end-of (length (fn .records)) bs
-        → (not (eqb (suc i) (end-of (length (fn .records)) bs)) ≡ true) ⊎ (in-no bs ≡ true) → suc i < length (fn .records)
+          → (not (eqb (suc i) (end-of (length (fn .records)) bs)) ≡ true) ⊎ (in-no bs ≡ true) → suc i < length (fn .records)
       go bs w k (inl q) = let a = eqb-false _ _ (not-true _ q) in let b = nested-size (length (fn .records)) bs w in omega arith
       go [] w k (inr q) = never q
       go (Yes c e s ∷ bs) w k (inr q) = never q
       go (No e s ∷ bs) w k (inr q) = let a = inside-size (length (fn .records)) e bs (w .1) (w .0) in omega arith
 
   plain : (i : ℕ) (op : Op) → i < length (fn .records) → record-at fn i ≡ Some op → placed (length (fn .records)) i (B i .blocks) (shape op) ≡ true → shape op ≡ Plain
-    → To p (notes p) n (suc i) (more (scopes (notes p) n i) (bound p fn (types (notes p) n i) op))
+      → To p (notes p) n (suc i) (more (scopes (notes p) n i) (bound p fn (types (notes p) n i) op))
   plain i op l q h e =
-    let o = bound p fn (B i .types) op in
-    let m : B (suc i) ≡ close (suc i) (grown (B i .types) o) (B i .blocks) =
-      before-suc p fn i l ∙ ap (after p fn i (B i)) q ∙ plain-moves p fn formed ok i (B i) (grown (B i .types) o) (yes-types p fn (B i .types)) (shape op) e in
-    (next-there i l (subst (λ (s : Shape). placed (length (fn .records)) i (B i .blocks) s ≡ true) e h),
-      subst⁻¹ (λ (ts : List Ty). FallsSc (more (scopes (notes p) n i) (bound p fn ts op)) (scopes (notes p) n (suc i))) (now i)
-        (subst⁻¹ (λ (S : State). FallsSc (more (scopes (notes p) n i) o) (state-stacks S)) m
-          (subst (λ (x : List (List C.Claim)). FallsSc x (state-stacks (close (suc i) (grown (B i .types) o) (B i .blocks)))) (grown-notes (B i .types) (B i .blocks) o (kept i l))
-            (close-falls (suc i) (grown (B i .types) o) (B i .blocks) (kept-grown (B i .types) (grown (B i .types) o) (B i .blocks) (kept i l) (grown-bound (B i .types) o))))))
+      let o = bound p fn (B i .types) op in
+      let m : B (suc i) ≡ close (suc i) (grown (B i .types) o) (B i .blocks) =
+      before-suc p fn i l ∙ ap (after p fn i (B i)) q ∙ plain-moves p fn formed ok i (B i) (grown (B i .types) o) (yes-types p fn (B i .types)) (shape op) e in (
+        next-there i l (subst (λ (s : Shape). placed (length (fn .records)) i (B i .blocks) s ≡ true) e h),
+        subst⁻¹ (λ (ts : List Ty). FallsSc (more (scopes (notes p) n i) (bound p fn ts op)) (scopes (notes p) n (suc i))) (now i)
+            (subst⁻¹ (λ (S : State). FallsSc (more (scopes (notes p) n i) o) (state-stacks S)) m
+            (subst (λ (x : List (List C.Claim)). FallsSc x (state-stacks (close (suc i) (grown (B i .types) o) (B i .blocks)))) (grown-notes (B i .types) (B i .blocks) o (kept i l))
+            (close-falls (suc i) (grown (B i .types) o) (B i .blocks) (kept-grown (B i .types) (grown (B i .types) o) (B i .blocks) (kept i l) (grown-bound (B i .types) o))))),
+      )
 
   joins : (i k : ℕ) → i < length (fn .records) → record-at fn i ≡ Some (Join k) → To p (notes p) n (suc i + k) (scopes (notes p) n i)
   joins i k l q =
-    let w = joined p fn ok i k l q in
-    let c = subst (Kept (B i .types)) (w .block) (kept i l) in
-    (w .room,
-      subst⁻¹ (λ (S : State). FallsSc (scopes (notes p) n i) (state-stacks S)) (w .leads)
-        (subst⁻¹ (λ (bs : List Block). FallsSc (stacks (annotate (B i .types) bs)) (state-stacks (close (suc i + k) (w .back) (w .outer)))) (w .block)
-          (falls-trans (stacks (annotate (B i .types) (Yes k (suc i) (w .back) ∷ w .outer))) (stacks (annotate (w .back) (w .outer))) (state-stacks (close (suc i + k) (w .back) (w .outer)))
-            (back-falls (B i .types) (Yes k (suc i) (w .back)) (w .outer) c) (close-falls (suc i + k) (w .back) (w .outer) (c .1)))))
+      let w = joined p fn ok i k l q in
+      let c = subst (Kept (B i .types)) (w .block) (kept i l) in (
+        w .room,
+        subst⁻¹ (λ (S : State). FallsSc (scopes (notes p) n i) (state-stacks S)) (w .leads)
+            (subst⁻¹ (λ (bs : List Block). FallsSc (stacks (annotate (B i .types) bs)) (state-stacks (close (suc i + k) (w .back) (w .outer)))) (w .block)
+            (falls-trans (stacks (annotate (B i .types) (Yes k (suc i) (w .back) ∷ w .outer))) (stacks (annotate (w .back) (w .outer))) (state-stacks (close (suc i + k) (w .back) (w .outer)))
+            (back-falls (B i .types) (Yes k (suc i) (w .back)) (w .outer) c) (close-falls (suc i + k) (w .back) (w .outer) (c .1)))),
+      )
 
   asked : (i : ℕ) (t : Test) (a b : ℕ) → i < length (fn .records) → record-at fn i ≡ Some (Ask t a b)
-    → To p (notes p) n (suc i) (pushed (scopes (notes p) n i) (changes p fn (types (notes p) n i) t)) × To p (notes p) n (suc i + a) (scopes (notes p) n i)
+      → To p (notes p) n (suc i) (pushed (scopes (notes p) n i) (changes p fn (types (notes p) n i) t)) × To p (notes p) n (suc i + a) (scopes (notes p) n i)
   asked i t a b l q =
-    let w = two-blocks p fn ok i t a b (l, q) in
-    let room = w .room in
-    let yes-there : suc i < length (fn .records) = omega arith in
-    let no-there : suc i + a < length (fn .records) = omega arith in
-    ((yes-there,
-      subst⁻¹ (λ (ts : List Ty). FallsSc (pushed (scopes (notes p) n i) (changes p fn ts t)) (scopes (notes p) n (suc i))) (now i)
-        (subst⁻¹ (λ (S : State). FallsSc (pushed (scopes (notes p) n i) (changes p fn (B i .types) t)) (state-stacks S)) (w .begins)
-          (yes-falls p fn (B i .types) (B i .blocks) (Yes b (suc i + a) (B i .types)) t refl))),
-      (no-there, elim (cases-eq b 0) [
-          inl z ↦ (let e : suc i + a + b ≡ suc i + a = omega arith in
-            let m : B (suc i + a) ≡ close (suc i + a) (B i .types) (B i .blocks) = subst (λ (k : ℕ). B k ≡ close k (B i .types) (B i .blocks)) e (w .comes-back) in
-            subst⁻¹ (λ (S : State). FallsSc (scopes (notes p) n i) (state-stacks S)) m (close-falls (suc i + a) (B i .types) (B i .blocks) (kept i l)))
-        | inr z ↦ subst⁻¹ (λ (S : State). FallsSc (scopes (notes p) n i) (state-stacks S)) (w .turns (omega arith))
-            (subst⁻¹ (λ (x : List (List C.Claim)). FallsSc (scopes (notes p) n i) x) (turned (B i .types) (No (suc i + a + b) (B i .types)) (B i .blocks) refl) (falls-refl (scopes (notes p) n i)))
-        ]))
+      let w = two-blocks p fn ok i t a b (l, q) in
+      let room = w .room in
+      let yes-there : suc i < length (fn .records) = omega arith in
+      let no-there : suc i + a < length (fn .records) = omega arith in (
+        (
+          yes-there,
+          subst⁻¹ (λ (ts : List Ty). FallsSc (pushed (scopes (notes p) n i) (changes p fn ts t)) (scopes (notes p) n (suc i))) (now i)
+              (subst⁻¹ (λ (S : State). FallsSc (pushed (scopes (notes p) n i) (changes p fn (B i .types) t)) (state-stacks S)) (w .begins)
+              (yes-falls p fn (B i .types) (B i .blocks) (Yes b (suc i + a) (B i .types)) t refl)),
+        ),
+        (
+          no-there,
+          elim (cases-eq b 0) [
+            | inl z ↦ (let e : suc i + a + b ≡ suc i + a = omega arith in
+                let m : B (suc i + a) ≡ close (suc i + a) (B i .types) (B i .blocks) = subst (λ (k : ℕ). B k ≡ close k (B i .types) (B i .blocks)) e (w .comes-back) in
+                subst⁻¹ (λ (S : State). FallsSc (scopes (notes p) n i) (state-stacks S)) m (close-falls (suc i + a) (B i .types) (B i .blocks) (kept i l)))
+            | inr z ↦ subst⁻¹ (λ (S : State). FallsSc (scopes (notes p) n i) (state-stacks S)) (w .turns (omega arith))
+                (subst⁻¹ (λ (x : List (List C.Claim)). FallsSc (scopes (notes p) n i) x) (turned (B i .types) (No (suc i + a + b) (B i .types)) (B i .blocks) refl) (falls-refl (scopes (notes p) n i)))
+          ],
+        ),
+      )
 
   leads : (i : ℕ) (op : Op) → i < length (fn .records) → record-at fn i ≡ Some op → placed (length (fn .records)) i (B i .blocks) (shape op) ≡ true → Leads p (notes p) n i op (shape op)
   leads i (New z s) l q h = plain i (New z s) l q h refl
@@ -276,31 +286,33 @@ module _ (p : Program) (formed : Formed p) (n : ℕ) (ok : Accepted p (callee p 
 
 pub accepted-checked : (p : Program) → Formed p → Shaped p → verdict p ≡ Ok tt → Checked p (notes p)
 accepted-checked p formed shaped v = record {
-    narrow = shaped .narrow;
-    lasting = λ s f. formed .fields s f .lasting;
-    bare = shaped .bare;
-    pointing = λ s f h. elim (or-cases _ _ h) [ inl q ↦ formed .fields s f .once q | inr q ↦ formed .fields s f .spec q ];
-    main = shaped .main;
-    brief = formed .few;
-    alone = ap entered (nil-from-length (callee p 0 .params) (formed .alone));
-    begins = shaped .begins;
-    params = λ n h. refl;
-    fine = fine }
+  narrow = shaped .narrow;
+  lasting = λ s f. formed .fields s f .lasting;
+  bare = shaped .bare;
+  pointing = λ s f h. elim (or-cases _ _ h) [ inl q ↦ formed .fields s f .once q | inr q ↦ formed .fields s f .spec q ];
+  main = shaped .main;
+  brief = formed .few;
+  alone = ap entered (nil-from-length (callee p 0 .params) (formed .alone));
+  begins = shaped .begins;
+  params = λ n h. refl;
+  fine = fine;
+}
   where
     fine : (n i : ℕ) → n < length (p .functions) → i < length (callee p n .records) → Fine p (notes p) n i
     fine n i hn hi =
-      let ok = verdict-stands p v n hn in
-      let g = good p (callee p n) i (before p (callee p n) i) (record-at (callee p n) i) (ok i hi) in
-      let fit = fit-stands p n formed ok i (omega arith) in
-      let e = current-annotate (before p (callee p n) i .types) (before p (callee p n) i .blocks) in
-      record {
-        op = g .op;
-        is = g .is;
-        held = subst⁻¹ (λ (ts : List Ty). first (premises p (callee p n) ts (g .op)) ≡ None) e (g .held);
-        leads = leads p formed n ok i (g .op) hi (g .is) (g .place);
-        bytes = subst Wide (g .is) (shaped .wide n i);
-        few = (let a = annotate-length (before p (callee p n) i .types) (before p (callee p n) i .blocks) in let b = fit .slots in omega arith);
-        kept = λ x. subst⁻¹ (λ (ts : List Ty). keeps (p .structs) (slot ts x) ≡ true) e (slot-keeps (p .structs) (before p (callee p n) i .types) x (fit .types)) }
+        let ok = verdict-stands p v n hn in
+        let g = good p (callee p n) i (before p (callee p n) i) (record-at (callee p n) i) (ok i hi) in
+        let fit = fit-stands p n formed ok i (omega arith) in
+        let e = current-annotate (before p (callee p n) i .types) (before p (callee p n) i .blocks) in
+        record {
+          op = g .op;
+          is = g .is;
+          held = subst⁻¹ (λ (ts : List Ty). first (premises p (callee p n) ts (g .op)) ≡ None) e (g .held);
+          leads = leads p formed n ok i (g .op) hi (g .is) (g .place);
+          bytes = subst Wide (g .is) (shaped .wide n i);
+          few = (let a = annotate-length (before p (callee p n) i .types) (before p (callee p n) i .blocks) in let b = fit .slots in omega arith);
+          kept = λ x. subst⁻¹ (λ (ts : List Ty). keeps (p .structs) (slot ts x) ≡ true) e (slot-keeps (p .structs) (before p (callee p n) i .types) x (fit .types));
+        }
 
 pub notes-types : (p : Program) → types (notes p) ≡ types-before p
 notes-types p = fun-ext (λ n. fun-ext (λ i. current-annotate (before p (callee p n) i .types) (before p (callee p n) i .blocks)))

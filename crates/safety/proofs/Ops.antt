@@ -1,44 +1,42 @@
 -- Each step of the machine keeps the invariant.
 use mathlib.Core.Path.{_≡_, refl, sym, ap, subst, _∙_}
 use mathlib.Core.Bool.{Bool, true, false}
-use mathlib.Core.List.{List, [], _∷_}
-use mathlib.Core.Logic.{_⊎_, inl, inr}
-use Prim.Native.Nat.{ℕ, suc, zero, _<_, _≤_}
+use mathlib.Core.List.{List, []}
+use mathlib.Core.Logic.{inl, inr}
+use Prim.Native.Nat.{ℕ, suc, zero, _≤_}
 use native.Mathlib.Omega.{arith}
 use Rattle.table.specs.declared.types.Mode.the-variants.{Var, Val, Once, Spec}
 use Rattle.table.specs.declared.types.Mode.{Mode}
 use Rattle.machine.specs.declared.threads.Slot.{Slot}
 use Rattle.machine.specs.declared.threads.Slot.the-variants.{Empty, Null, Number, Reference}
 use Rattle.machine.specs.Values.{reference-of, word-of}
-use Rattle.safety.specs.Model.{Right, alias, owned, pristine, Claim, num, pt, Content, fnum, falias, fowned, Structs, Cell, Heap, Slots, Spot, Entry, out, here, Place, at, cell, spot?, place?, put, wr, nameOf, rank, ownTy, prisTy, nameE, ownE, prisE, nameC, ownC, structOf, modeAt, fieldAt, Stable, Dead, Obj, Part, Conf, Saved, EntryOK, CellOK, Inv, name, own, pris, Has}
-use Rattle.safety.specs.Fields.{zeroed, stored, tentative, gone, fixed, Flows, tyOf, valOf, spent, Within, With, Without, Alone, FlowK, lent, grow}
-use Rattle.safety.specs.Step.{Mem, poke, added, erase, shared, Writable, RefTo, Plain, Falls, ends, stays, pops, Sound}
-use Rattle.safety.proofs.Update.{put-at, put-off, at-inj, not-both, wr-at, wr-off}
-use Rattle.safety.proofs.Places.{Unique, Sole, Sub}
-use Rattle.safety.proofs.Frame.{Grows, KeepA, KeepO, KeepP, conf-frame, saved-frame, entry-frame, cell-frame}
-use Rattle.safety.proofs.Write.{wr-grows, wr-dead, wr-mark, Written, write}
-use Rattle.safety.proofs.Flow.{has-none, flow, flow-rank, flow-lent, own-zero, pris-zero, pris-low, own-low, own-high, name-ref, RefVal, word-name, conf-ref, conf-high, null-conf, null-entry, load-conf, store-points, store-whole}
-use Rattle.safety.proofs.New.{own-zeroed, name-zeroed, zero-cell, own-name, pris-own-e, own-name-e}
-use Rattle.safety.proofs.Cells.{calm, name-val, not-cell-at}
-use Rattle.safety.proofs.Erase.{put-put, put-back, put-spare, Off, off, off-wr, off-ghost, erase-wr, erase-grow}
-use Rattle.safety.proofs.Scope.{lessen, retype, bind, move}
-use Rattle.safety.proofs.New.{new, low}
+use Rattle.safety.specs.Model.{Right, alias, owned, pristine, Claim, num, pt, Content, fnum, falias, fowned, Structs, Heap, Slots, Spot, Entry, here, at, cell, put, wr, nameOf, rank, ownTy, prisTy, nameE, ownE, prisE, modeAt, fieldAt, EntryOK, Inv}
+use Rattle.safety.specs.Fields.{zeroed, Flows, tyOf, valOf, lent}
+use Rattle.safety.specs.Step.{poke, erase, shared, Plain, Falls, ends, stays, pops, Sound}
+use Rattle.safety.proofs.Update.{at-inj}
+use Rattle.safety.proofs.Places.{Sub}
+use Rattle.safety.proofs.Flow.{flow, flow-rank, flow-lent, pris-low, own-low, own-high, RefVal}
+use Rattle.safety.proofs.Cells.{name-val, not-cell-at}
+use Rattle.safety.proofs.Erase.{off, erase-wr}
+use Rattle.safety.proofs.Scope.{lessen, bind, move}
 use Rattle.safety.proofs.Flow.{read-conf}
-use Rattle.safety.proofs.Cells.{claim, store}
-use Rattle.safety.proofs.Ghosts.{extract, lend, fix}
-
+use Rattle.safety.proofs.Cells.{claim}
 
 never : {A : Type 0} (a b : Mode) → a ≡ b → ¬ (a ≡ b) → A
 never a b e n = absurd (n e)
 
 pub var-once : (m : Mode) → m ≡ Var → m ≡ Once → ⊥
 var-once m a b = let z : _≡_ {A = ℕ} 0 1 = cc in omega arith
+
 pub var-spec : (m : Mode) → m ≡ Var → m ≡ Spec → ⊥
 var-spec m a b = let z : _≡_ {A = ℕ} 0 1 = cc in omega arith
+
 pub val-spec : (m : Mode) → m ≡ Val → m ≡ Spec → ⊥
 val-spec m a b = let z : _≡_ {A = ℕ} 0 1 = cc in omega arith
+
 pub val-once : (m : Mode) → m ≡ Val → m ≡ Once → ⊥
 val-once m a b = let z : _≡_ {A = ℕ} 0 1 = cc in omega arith
+
 pub spec-once : (m : Mode) → m ≡ Spec → m ≡ Once → ⊥
 spec-once m a b = let z : _≡_ {A = ℕ} 0 1 = cc in omega arith
 
@@ -99,16 +97,16 @@ module _ (St : Structs) where
   -- a copy of what a slot has, as a number or an alias
   pub do-lend : (σ : Slots) (H : Heap) (z x : Spot) (v : Slot) (t t′ : Claim) (ts : List Claim) → Inv St σ H → σ x ≡ here v t ts → Flows t t′ → rank t′ ≡ 0 → Inv St (put σ z (here v t′ [])) H
   do-lend σ H z x v t t′ ts inv ex f r = bind St σ H z (here v t′ []) (at x) inv (flow St H v t t′ (at-slot σ H x (here v t ts) inv ex .0) f, tt)
-    (own-low t′ (nameOf v) r) (pris-low t′ (nameOf v) (omega arith))
-    (λ s h. ap (λ (y : Spot). prisE (σ y)) (sym (at-inj h)) ∙ ap prisE ex ∙ pris-low t (nameOf v) (flow-lent t t′ f r)) (inr (ap nameE (sym ex)))
+      (own-low t′ (nameOf v) r) (pris-low t′ (nameOf v) (omega arith))
+      (λ s h. ap (λ (y : Spot). prisE (σ y)) (sym (at-inj h)) ∙ ap prisE ex ∙ pris-low t (nameOf v) (flow-lent t t′ f r)) (inr (ap nameE (sym ex)))
 
   pub do-get : (σ : Slots) (H : Heap) (z : Spot) (p f : ℕ) → Inv St σ H → Inv St (put σ z (here (valOf (fieldAt St H p f) (H .mem p f .word)) (lent (fieldAt St H p f)) [])) H
   do-get σ H z p f inv = bind St σ H z (here (valOf (fieldAt St H p f) (H .mem p f .word)) (lent (fieldAt St H p f)) []) (cell p f) inv (read-conf St H p f (inv .cells p f), tt)
-    (lent-own (fieldAt St H p f) (nameOf (valOf (fieldAt St H p f) (H .mem p f .word)))) (lent-pris (fieldAt St H p f) (nameOf (valOf (fieldAt St H p f) (H .mem p f .word))))
-    (λ s h. absurd (not-cell-at h)) (inr (name-val (fieldAt St H p f) (H .mem p f)))
+      (lent-own (fieldAt St H p f) (nameOf (valOf (fieldAt St H p f) (H .mem p f .word)))) (lent-pris (fieldAt St H p f) (nameOf (valOf (fieldAt St H p f) (H .mem p f .word))))
+      (λ s h. absurd (not-cell-at h)) (inr (name-val (fieldAt St H p f) (H .mem p f)))
 
   pub do-give : (σ : Slots) (H : Heap) (z x : Spot) (v : Slot) (t t′ : Claim) (ts : List Claim) → Inv St σ H → ¬ (z ≡ x) → σ x ≡ here v t ts → Flows t t′ → 1 ≤ rank t′
-    → Inv St (put (put σ x (here Null t ts)) z (here v t′ [])) H
+      → Inv St (put (put σ x (here Null t ts)) z (here v t′ [])) H
   do-give σ H z x v t t′ ts inv n ex f r = move St σ H x z v t t′ ts inv n ex (flow St H v t t′ (at-slot σ H x (here v t ts) inv ex .0) f) r (flow-rank t t′ f)
 
   own-sub : (u t : Claim) (n : ℕ) → rank u ≤ rank t → Sub (ownTy u n) (ownTy t n)
@@ -131,12 +129,12 @@ module _ (St : Structs) where
   fall-all H e e′ ends c = (tt, inl refl, inl refl, inl refl)
   fall-all H e e′ (stays i) c = (subst (λ (x : Entry). EntryOK St H x) i c, inr (ap ownE (sym i)), inr (ap prisE (sym i)), inr (ap nameE (sym i)))
   fall-all H e e′ (pops {v = v} {t = t} {u = u} {us = us} k) c =
-    let r = fall-all H (here v u us) e′ k (c .1 .0, c .1 .2) in
-    (r .0, sub-sub (r .1) (own-sub u t (nameOf v) (c .1 .1)), sub-sub (r .2) (pris-sub u t (nameOf v) (c .1 .1)), r .3)
+      let r = fall-all H (here v u us) e′ k (c .1 .0, c .1 .2) in
+      (r .0, sub-sub (r .1) (own-sub u t (nameOf v) (c .1 .1)), sub-sub (r .2) (pris-sub u t (nameOf v) (c .1 .1)), r .3)
 
   pub do-fall : (σ σ′ : Slots) (H : Heap) → Inv St σ H → ((s : Spot) → Falls (σ s) (σ′ s)) → Inv St σ′ H
   do-fall σ σ′ H inv k = lessen St σ σ′ H inv (λ s. fall-all H (σ s) (σ′ s) (k s) (inv .slots s) .0) (λ s. fall-all H (σ s) (σ′ s) (k s) (inv .slots s) .1)
-    (λ s. fall-all H (σ s) (σ′ s) (k s) (inv .slots s) .2) (λ s. fall-all H (σ s) (σ′ s) (k s) (inv .slots s) .3)
+      (λ s. fall-all H (σ s) (σ′ s) (k s) (inv .slots s) .2) (λ s. fall-all H (σ s) (σ′ s) (k s) (inv .slots s) .3)
 
   -- a var field is neither marked nor dead
   pub var-unmarked : (σ : Slots) (H : Heap) (p f : ℕ) → Inv St σ H → modeAt St H p f ≡ Var → H .mem p f .mark ≡ false
@@ -146,5 +144,5 @@ module _ (St : Structs) where
   var-live σ H p f inv h = off-true (H .mem p f .dead) (λ e. inv .cells p f .dying e .1 h)
 
   pub do-take : (σ : Slots) (H : Heap) (z : Spot) (p f : ℕ) → Inv St σ H → modeAt St H p f ≡ Var
-    → Sound St (put σ z (here (valOf (fieldAt St H p f) (H .mem p f .word)) (tyOf (fieldAt St H p f)) [])) (poke (erase H) p f 0 false)
+      → Sound St (put σ z (here (valOf (fieldAt St H p f) (H .mem p f .word)) (tyOf (fieldAt St H p f)) [])) (poke (erase H) p f 0 false)
   do-take σ H z p f inv h = (wr H p f zeroed, claim St σ H z p f [] inv (var-live σ H p f inv h) (var-unmarked σ H p f inv h) tt, erase-wr H (erase H) p f zeroed 0 false (off H p f) refl refl)

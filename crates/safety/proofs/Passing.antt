@@ -39,7 +39,7 @@ pub leaving-is : (vs : List Slot) (xs : List ℕ) (ts : List Ty) → leaving vs 
 leaving-is vs xs [] = refl
 leaving-is vs [] (t ∷ ts) = refl
 leaving-is vs (x ∷ xs) (t ∷ ts) =
-  leaving-is (set vs x (left t (getD vs x V.Empty))) xs ts ∙ ap (λ (v : Slot). spendVals (set vs x v) (pairs xs ts)) (kept-core t (getD vs x V.Empty))
+    leaving-is (set vs x (left t (getD vs x V.Empty))) xs ts ∙ ap (λ (v : Slot). spendVals (set vs x v) (pairs xs ts)) (kept-core t (getD vs x V.Empty))
 
 pub leaving-length : (vs : List Slot) (xs : List ℕ) (ts : List Ty) → length (leaving vs xs ts) ≡ length vs
 leaving-length vs xs [] = refl
@@ -109,5 +109,5 @@ module _ (Ms : List (List Frame)) (i : ℕ) (gs : List Frame) (hi : i < length M
         go (no d) b n k = ap (λ (l : List Frame). getD l b no-frame) (push-off (set Ms i gs) (G ∷ []) [] a (λ e. d (e ∙ length-set Ms i gs))) ∙ others-set P h a b k
         go (yes e) zero n k = absurd (n (e, refl))
         go (yes e) (suc b) n k =
-          ap (λ (c : ℕ). frameAt (set Ms i gs ++ ((G ∷ []) ∷ [])) c (suc b)) e ∙ ap (λ (l : List Frame). getD l (suc b) no-frame) (getD-push (set Ms i gs) (G ∷ []) [] (length Ms) (length-set Ms i gs))
+            ap (λ (c : ℕ). frameAt (set Ms i gs ++ ((G ∷ []) ∷ [])) c (suc b)) e ∙ ap (λ (l : List Frame). getD l (suc b) no-frame) (getD-push (set Ms i gs) (G ∷ []) [] (length Ms) (length-set Ms i gs))
             ∙ ap (λ (l : List Frame). getD l (suc b) no-frame) (sym (getD-past Ms (length Ms) [] (omega arith))) ∙ ap (λ (c : ℕ). frameAt Ms c (suc b)) (sym e)

@@ -1,9 +1,9 @@
 -- At most one place owns, and a pristine slot is the only name: what keeps that, over places and numbers alone (o + 1 for the object o, and 0 for none).
 use mathlib.Core.Path.{_≡_, refl, sym, ap, subst, _∙_}
 use mathlib.Core.Logic.{_⊎_, inl, inr}
-use Prim.Native.Nat.{ℕ, suc, zero, _<_, _≤_}
+use Prim.Native.Nat.{ℕ, suc}
 use native.Mathlib.Omega.{arith}
-use Rattle.safety.specs.Model.{Spot, Place, at, cell, spot?, place?}
+use Rattle.safety.specs.Model.{Spot, Place, at, spot?, place?}
 use Rattle.safety.proofs.Update.{at-inj}
 
 abbrev pub Unique : (Place → ℕ) → Type 0
@@ -25,8 +25,7 @@ unique-less own own′ k u p q o h j = u p q o (sub-suc (k p) h) (sub-suc (k q) 
 
 -- what a and b own changes places, and nothing is gained
 module _ (own own′ : Place → ℕ) (a b : Place)
-  (ka : Sub (own′ a) (own b)) (kb : Sub (own′ b) (own a)) (k : (r : Place) → ¬ (r ≡ a) → ¬ (r ≡ b) → Sub (own′ r) (own r)) where
-
+    (ka : Sub (own′ a) (own b)) (kb : Sub (own′ b) (own a)) (k : (r : Place) → ¬ (r ≡ a) → ¬ (r ≡ b) → Sub (own′ r) (own r)) where
   data From (r r₀ : Place) : Type 0 where
     first : r ≡ a → r₀ ≡ b → From r r₀
     second : r ≡ b → r₀ ≡ a → From r r₀
@@ -53,13 +52,13 @@ module _ (own own′ : Place → ℕ) (a b : Place)
 
   pub unique-swap : Unique own → Unique own′
   unique-swap u p q o h j =
-    let x = from p o h in let y = from q o j in
-    let e : y .0 ≡ x .0 = u (y .0) (x .0) o (y .1) (x .1) in
-    from-inj p q (x .0) (x .2) (subst (λ (r : Place). From q r) e (y .2))
+      let x = from p o h in let y = from q o j in
+      let e : y .0 ≡ x .0 = u (y .0) (x .0) o (y .1) (x .1) in
+      from-inj p q (x .0) (x .2) (subst (λ (r : Place). From q r) e (y .2))
 
 -- a new object
 pub unique-new : (own own′ : Place → ℕ) (b : Place) (n : ℕ) → own′ b ≡ suc n → ((r : Place) → ¬ (r ≡ b) → Sub (own′ r) (own r))
-  → ((r : Place) → ¬ (own r ≡ suc n)) → Unique own → Unique own′
+    → ((r : Place) → ¬ (own r ≡ suc n)) → Unique own → Unique own′
 unique-new own own′ b n kb k fresh u p q o h j = go (place? p b) (place? q b)
   where
     go : Dec (p ≡ b) → Dec (q ≡ b) → p ≡ q
@@ -70,18 +69,19 @@ unique-new own own′ b n kb k fresh u p q o h j = go (place? p b) (place? q b)
 
 -- names may be gained from a place q that is not pristine
 pub sole-gain : (pris pris′ : Spot → ℕ) (name name′ : Place → ℕ) (q : Place) → ((s : Spot) → Sub (pris′ s) (pris s))
-  → ((s : Spot) → q ≡ at s → pris′ s ≡ 0) → ((r : Place) → Sub (name′ r) (name r) ⊎ (name′ r ≡ name q)) → Sole pris name → Sole pris′ name′
+    → ((s : Spot) → q ≡ at s → pris′ s ≡ 0) → ((r : Place) → Sub (name′ r) (name r) ⊎ (name′ r ≡ name q)) → Sole pris name → Sole pris′ name′
 sole-gain pris pris′ name name′ q k plain kn u s p o h j = go (kn p)
   where
     h₀ : pris s ≡ suc o
     h₀ = sub-suc (k s) h
+
     go : Sub (name′ p) (name p) ⊎ (name′ p ≡ name q) → p ≡ at s
     go (inl x) = u s p o h₀ (sub-suc x j)
     go (inr x) = let e : pris′ s ≡ 0 = plain s (u s q o h₀ (sym x ∙ j)) in let z : ⊥ = omega arith in absurd z
 
 -- a pristine slot's reference goes to another slot
 pub sole-move : (pris pris′ : Spot → ℕ) (name name′ : Place → ℕ) (x z : Spot) → name′ (at x) ≡ 0 → pris′ x ≡ 0 → Sub (pris′ z) (pris x) → Sub (name′ (at z)) (name (at x))
-  → ((s : Spot) → ¬ (s ≡ x) → ¬ (s ≡ z) → Sub (pris′ s) (pris s)) → ((r : Place) → ¬ (r ≡ at x) → ¬ (r ≡ at z) → Sub (name′ r) (name r)) → Sole pris name → Sole pris′ name′
+    → ((s : Spot) → ¬ (s ≡ x) → ¬ (s ≡ z) → Sub (pris′ s) (pris s)) → ((r : Place) → ¬ (r ≡ at x) → ¬ (r ≡ at z) → Sub (name′ r) (name r)) → Sole pris name → Sole pris′ name′
 sole-move pris pris′ name name′ x z nx px pz nz k kn u s p o h j = go (place? p (at x)) (place? p (at z)) (spot? s x) (spot? s z)
   where
     go : Dec (p ≡ at x) → Dec (p ≡ at z) → Dec (s ≡ x) → Dec (s ≡ z) → p ≡ at s
@@ -94,7 +94,7 @@ sole-move pris pris′ name name′ x z nx px pz nz k kn u s p o h j = go (place
 
 -- a new object, named by one slot
 pub sole-new : (pris pris′ : Spot → ℕ) (name name′ : Place → ℕ) (z : Spot) (n : ℕ) → pris′ z ≡ suc n → ((s : Spot) → ¬ (s ≡ z) → Sub (pris′ s) (pris s))
-  → name′ (at z) ≡ suc n → ((r : Place) → ¬ (r ≡ at z) → Sub (name′ r) (name r)) → ((r : Place) → ¬ (name r ≡ suc n)) → ((s : Spot) → ¬ (pris s ≡ suc n)) → Sole pris name → Sole pris′ name′
+    → name′ (at z) ≡ suc n → ((r : Place) → ¬ (r ≡ at z) → Sub (name′ r) (name r)) → ((r : Place) → ¬ (name r ≡ suc n)) → ((s : Spot) → ¬ (pris s ≡ suc n)) → Sole pris name → Sole pris′ name′
 sole-new pris pris′ name name′ z n pz k nz kn fresh fresh-p u s p o h j = go (place? p (at z)) (spot? s z)
   where
     go : Dec (p ≡ at z) → Dec (s ≡ z) → p ≡ at s

@@ -117,8 +117,9 @@ module _ (X : Poised) where
       record {
         at = at;
         fits = kept-sound (structs-of p) (flat (scopes A) Ms) (mem m) (base .sound) .fits (C.spot i J x) (value p m fs x) (core (slot ts x)) (saved-at sc x)
-          (in-scope (structs-of p) (scopes A) Ms (mem m) i J act (base .sound) x (value p m fs x) (core (slot ts x)) (saved-at sc x) at);
-        low = low }
+            (in-scope (structs-of p) (scopes A) Ms (mem m) i J act (base .sound) x (value p m fs x) (core (slot ts x)) (saved-at sc x) at);
+        low = low;
+      }
 
   -- an operand is given, and is what its type says
   pub is-given : (x : ℕ) → Operand x → given (F .slots) x ≡ true
@@ -146,11 +147,15 @@ module _ (X : Poised) where
 
   -- the newest frame goes on
   pub goes : (line : ℕ) (vs : List Slot) (n : Store) (R : Mem) (out : Option ℕ) → Typed (structs-of p) (scopes A) Ms (mem m) i J (advance Ms i J line vs) R
-    → mem n ≡ R → Whole n → line < length (callee p (F .function) .records) → length vs ≡ 16 → Good (Does (go p m fs line vs n) out)
-  goes line vs n R out t e w l k = (record {
+      → mem n ≡ R → Whole n → line < length (callee p (F .function) .records) → length vs ≡ 16 → Good (Does (go p m fs line vs n) out)
+  goes line vs n R out t e w l k = (
+    record {
       sound = subst (λ (Q : Mem). Sound (structs-of p) (flat (scopes A) (advance Ms i J line vs)) Q) (sym e) (typed-keeps (structs-of p) (scopes A) Ms (mem m) i J act (base .sound) (advance Ms i J line vs) R t);
       chains = set-all (Chain p) Ms i (set fs J G) [] (chain-moved p fs J G (base .chains i) (omega arith) refl (record { there = placed .there; index = l; slots = k })) (base .chains);
-      whole = w }, λ _. let a = length-set fs J G in omega arith)
+      whole = w;
+    },
+    λ _. let a = length-set fs J G in omega arith,
+  )
     where
       G : Frame
       G = record { function = F .function; index = line; slots = vs }
@@ -163,11 +168,11 @@ module _ (X : Poised) where
 
   -- and binds z
   pub binding : (z : ℕ) → free p (callee p (F .function)) ts z ≡ true → (vs : List Slot) (v : Slot) (n : Store) (R : Mem) (out : Option ℕ)
-    → Typed (structs-of p) (scopes A) Ms (mem m) i J (advance Ms i J (suc (F .index)) (set vs (fresh (structs-of p) (scopes A) Ms i J) v)) R
-    → mem n ≡ R → Whole n → suc (F .index) < length (callee p (F .function) .records) → length vs ≡ 16 → Good (Does (go p m fs (suc (F .index)) (set vs z v) n) out)
+      → Typed (structs-of p) (scopes A) Ms (mem m) i J (advance Ms i J (suc (F .index)) (set vs (fresh (structs-of p) (scopes A) Ms i J) v)) R
+      → mem n ≡ R → Whole n → suc (F .index) < length (callee p (F .function) .records) → length vs ≡ 16 → Good (Does (go p m fs (suc (F .index)) (set vs z v) n) out)
   binding z h vs v n R out t e w l k =
       subst (λ (y : ℕ). Good (Does (go p m fs (suc (F .index)) (set vs y v) n) out)) (sym (is-free z h .0))
-        (goes (suc (F .index)) (set vs (fresh (structs-of p) (scopes A) Ms i J) v) n R out t e w l (length-set vs (fresh (structs-of p) (scopes A) Ms i J) v ∙ k))
+      (goes (suc (F .index)) (set vs (fresh (structs-of p) (scopes A) Ms i J) v) n R out t e w l (length-set vs (fresh (structs-of p) (scopes A) Ms i J) v ∙ k))
 
   -- small things
   pub low-fresh : (z : ℕ) → free p (callee p (F .function)) ts z ≡ true → fresh (structs-of p) (scopes A) Ms i J < 16
@@ -201,16 +206,16 @@ module _ (X : Poised) where
   -- a null x halts, else there is an object
   pub unless-null : (x : ℕ) → is-reference (value p m fs x) ≡ true → (t : Turn) → ((o : ℕ) → value p m fs x ≡ V.Reference o → Good t) → Good (cond (is-null (value p m fs x)) (Does (stopped p m fs Halted fs) None) t)
   unless-null x h t g = elim (null-or (value p m fs x) h) [
-      inl e ↦ subst (λ (v : Slot). Good (cond (is-null v) (Does (stopped p m fs Halted fs) None) t)) (sym e) halting
+    | inl e ↦ subst (λ (v : Slot). Good (cond (is-null v) (Does (stopped p m fs Halted fs) None) t)) (sym e) halting
     | inr e ↦ subst (λ (v : Slot). Good (cond (is-null v) (Does (stopped p m fs Halted fs) None) t)) (sym (e .1)) (g (e .0) (e .1))
-    ]
+  ]
 
   pub unless-nulls : (x y : ℕ) → is-reference (value p m fs x) ≡ true → is-reference (value p m fs y) ≡ true → (t : Turn) → ((o q : ℕ) → value p m fs x ≡ V.Reference o → value p m fs y ≡ V.Reference q → Good t)
-    → Good (cond (is-null (value p m fs x) || is-null (value p m fs y)) (Does (stopped p m fs Halted fs) None) t)
+      → Good (cond (is-null (value p m fs x) || is-null (value p m fs y)) (Does (stopped p m fs Halted fs) None) t)
   unless-nulls x y h k t g = elim (null-or (value p m fs x) h) [
-      inl e ↦ subst (λ (v : Slot). Good (cond (is-null v || is-null (value p m fs y)) (Does (stopped p m fs Halted fs) None) t)) (sym e) halting
+    | inl e ↦ subst (λ (v : Slot). Good (cond (is-null v || is-null (value p m fs y)) (Does (stopped p m fs Halted fs) None) t)) (sym e) halting
     | inr e ↦ subst (λ (v : Slot). Good (cond (is-null v || is-null (value p m fs y)) (Does (stopped p m fs Halted fs) None) t)) (sym (e .1)) (unless-null y k t (λ q d. g (e .0) q (e .1) d))
-    ]
+  ]
 
   -- the object that x refers to
   pub struct-at : (x : ℕ) → Operand x → (o : ℕ) → value p m fs x ≡ V.Reference o → (o < countOf m) × (objectAt m o .kind ≡ Sd x)

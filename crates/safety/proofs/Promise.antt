@@ -16,9 +16,9 @@ use Rattle.table.specs.declared.fault.Place.the-variants.{Thread}
 use Rattle.table.specs.Faults.{Passes, need, each, _>>=_}
 use Rattle.memory.specs.Model.{Store, countOf}
 use Rattle.machine.specs.declared.threads.Frame.{Frame}
-use Rattle.machine.specs.World.{Task, World, no-task, is-running, op-at, task, starting, main-frame}
+use Rattle.machine.specs.World.{Task, World, no-task, is-running, task, starting, main-frame}
 use Rattle.machine.specs.declared.threads.Status.the-variants.{Running}
-use Rattle.machine.specs.Ways.{newest}
+use Rattle.machine.specs.Ways.{standing}
 use Rattle.machine.specs.Steps.{Turn, Fails, Does, taking, joined, commit, stepped, after-step, Taken, step-fault}
 use Rattle.machine.specs.Clashes.{touch, touch-by, clashes}
 use Rattle.safety.specs.Model.{spot}
@@ -41,7 +41,7 @@ use Rattle.safety.proofs.Counts.{frames-of, tasks-one, clash-none}
 use Rattle.safety.proofs.Poised.{Poised}
 
 -- the frames of the threads
-frames-at : (ts : List Task) (i : ℕ) → getD (frames-of ts) i [] ≡ getD ts i no-task .frames
+pub frames-at : (ts : List Task) (i : ℕ) → getD (frames-of ts) i [] ≡ getD ts i no-task .frames
 frames-at [] i = refl
 frames-at (t ∷ ts) zero = refl
 frames-at (t ∷ ts) (suc i) = frames-at ts i
@@ -92,8 +92,9 @@ module _ (p : Program) (A : Notes) (ck : Checked p A) where
   commits : (W : World) (i : ℕ) → Well W → (t : Turn) → Good-turn p A (frames-of (W .tasks)) i t → Well-after (commit W i t)
   commits W i w (Fails n) g = g
   commits W i w (Does c out) g = record {
-      base = subst (λ (l : List (List Frame)). Base p A l (c .memory)) (sym (frames-joined (set (W .tasks) i t) (c .forked) ∙ ap (λ (l : List (List Frame)). with-fork l (c .forked)) (frames-set (W .tasks) i t))) (g .0);
-      alive = joined-alive (set (W .tasks) i t) (c .forked) (set-all Alive (W .tasks) i t no-task (g .1) (w .alive)) }
+    base = subst (λ (l : List (List Frame)). Base p A l (c .memory)) (sym (frames-joined (set (W .tasks) i t) (c .forked) ∙ ap (λ (l : List (List Frame)). with-fork l (c .forked)) (frames-set (W .tasks) i t))) (g .0);
+    alive = joined-alive (set (W .tasks) i t) (c .forked) (set-all Alive (W .tasks) i t no-task (g .1) (w .alive));
+  }
     where
       t : Task
       t = record { status = c .status; frames = c .frames }
@@ -101,15 +102,22 @@ module _ (p : Program) (A : Notes) (ck : Checked p A) where
   -- a thread that is about to step
   abbrev poised : (W : World) (i : ℕ) → Well W → is-running (task W i .status) ≡ true → Poised
   poised W i w r = record {
-      program = p; notes = A; checked = ck; threads = frames-of (W .tasks); memory = W .memory; number = i; kept = w .base;
-      framed = subst (λ (l : List Frame). 0 < length l) (sym (frames-at (W .tasks) i)) (w .alive i r) }
+    program = p;
+    notes = A;
+    checked = ck;
+    threads = frames-of (W .tasks);
+    memory = W .memory;
+    number = i;
+    kept = w .base;
+    framed = subst (λ (l : List Frame). 0 < length l) (sym (frames-at (W .tasks) i)) (w .alive i r);
+  }
 
   -- one step
   pub step-well : (W : World) (i room : ℕ) → Well W → Well-after (stepped p room W i)
-  step-well W i room w = cond-both (is-running (task W i .status)) (commit W i (taking p (W .memory) fs (length (W .tasks)) room (op-at p (newest fs)))) (Err (step-fault i 64)) Well-after
-      (λ r. commits W i w (taking p (W .memory) fs (length (W .tasks)) room (op-at p (newest fs)))
-        (subst (λ (l : List Frame). Good-turn p A (frames-of (W .tasks)) i (taking p (W .memory) l (length (W .tasks)) room (op-at p (newest l)))) (frames-at (W .tasks) i)
-          (steps (poised W i w r) (length (W .tasks)) room)))
+  step-well W i room w = cond-both (is-running (task W i .status)) (commit W i (taking p (W .memory) fs (length (W .tasks)) room (standing p fs))) (Err (step-fault i 64)) Well-after
+      (λ r. commits W i w (taking p (W .memory) fs (length (W .tasks)) room (standing p fs))
+      (subst (λ (l : List Frame). Good-turn p A (frames-of (W .tasks)) i (taking p (W .memory) l (length (W .tasks)) room (standing p l))) (frames-at (W .tasks) i)
+      (steps (poised W i w r) (length (W .tasks)) room)))
       (λ _. omega arith)
     where
       fs : List Frame
@@ -125,15 +133,18 @@ module _ (p : Program) (A : Notes) (ck : Checked p A) where
 
   pub start-well : (m : Store) → countOf m ≡ 0 → Well (starting m)
   start-well m e = record {
-      base = record {
-        sound = subst (λ (R : Mem). Sound (structs-of p) (flat (scopes A) ((main-frame ∷ []) ∷ [])) R) (sym (mem-empty m e)) (started-sound (structs-of p) (scopes A) (ap Rattle.safety.specs.Checked.stacks (ck .alone)));
-        chains = chain;
-        whole = λ o h. absurd (omega arith) };
-      alive = alive }
+    base = record {
+      sound = subst (λ (R : Mem). Sound (structs-of p) (flat (scopes A) ((main-frame ∷ []) ∷ [])) R) (sym (mem-empty m e)) (started-sound (structs-of p) (scopes A) (ap Rattle.safety.specs.Checked.stacks (ck .alone)));
+      chains = chain;
+      whole = λ o h. absurd (omega arith);
+    };
+    alive = alive;
+  }
     where
       chain : (i : ℕ) → Chain p (getD (frames-of (starting m .tasks)) i [])
       chain zero = record { there = ck .main; index = ck .begins 0 (ck .main); slots = refl }
       chain (suc i) = tt
+
       alive : (i : ℕ) → Alive (task (starting m) i)
       alive zero h = omega arith
       alive (suc i) h = never h
@@ -148,24 +159,26 @@ module _ (p : Program) (A : Notes) (ck : Checked p A) where
     where
       fs : List Frame
       fs = task W i .frames
+
       by : List Frame → Option (ℕ × ℕ)
-      by l = touch-by p (W .memory) l (op-at p (newest l))
+      by l = touch-by p (W .memory) l (standing p l)
+
       go : (b : Bool) → is-running (task W i .status) ≡ b → cond b (by fs) None ≡ Some t → (j x : ℕ) × (C.ownE (flat (scopes A) (frames-of (W .tasks)) (spot i j x)) ≡ suc (t .0))
       go false r k = nothing k
       go true r k =
-        let a = touch-owns (poised W i w r) t
+          let a = touch-owns (poised W i w r) t
           (subst (λ (l : List Frame). by l ≡ Some t) (sym (frames-at (W .tasks) i)) k) in
-        (length (getD (frames-of (W .tasks)) i []) - 1, a .0, a .1)
+          (length (getD (frames-of (W .tasks)) i []) - 1, a .0, a .1)
 
   one-slot : (W : World) → Well W → (i j k i′ j′ k′ o : ℕ) → C.ownE (flat (scopes A) (frames-of (W .tasks)) (spot i j k)) ≡ suc o → C.ownE (flat (scopes A) (frames-of (W .tasks)) (spot i′ j′ k′)) ≡ suc o → (i ≡ i′) × (j ≡ j′) × (k ≡ k′)
   one-slot W w i j k i′ j′ k′ o h g =
-    let e = slot-frame (kept-sound (structs-of p) (flat (scopes A) (frames-of (W .tasks))) (mem (W .memory)) (w .base .sound) .no-clash (spot i j k) (spot i′ j′ k′) o h g) in (e .0 .0, e .0 .1, e .1)
+      let e = slot-frame (kept-sound (structs-of p) (flat (scopes A) (frames-of (W .tasks))) (mem (W .memory)) (w .base .sound) .no-clash (spot i j k) (spot i′ j′ k′) o h g) in (e .0 .0, e .0 .1, e .1)
 
   pub no-clash : (W : World) → Well W → clashes p W ≡ None
   no-clash W w = clash-none p (W .memory) 0 (W .tasks) (λ a b t u e f q.
-    let x = touch-slot W w a t e in
-    let y = touch-slot W w b u f in
-    one-slot W w a (x .0) (x .1) b (y .0) (y .1) (t .0) (x .2) (y .2 ∙ ap suc (sym q)) .0)
+      let x = touch-slot W w a t e in
+      let y = touch-slot W w b u f in
+      one-slot W w a (x .0) (x .1) b (y .0) (y .1) (t .0) (x .2) (y .2 ∙ ap suc (sym q)) .0)
 
   pub few-owners : (W : World) → Well W → (o : ℕ) → tasks-owning (types A) (W .tasks) o ≤ 1
   few-owners W w o = tasks-one o A (W .tasks) (λ i j k i′ j′ k′ h g. one-slot W w i j k i′ j′ k′ o h g)

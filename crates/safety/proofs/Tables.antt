@@ -1,7 +1,7 @@
 -- Every table that is read and accepted keeps the promise.
 use mathlib.Core.Path.{_≡_, refl, sym, ap, subst, _∙_}
 use mathlib.Core.Bool.{Bool, true}
-use mathlib.Core.List.{List}
+use mathlib.Core.List.{List, [], _∷_}
 use Prim.Native.Nat.{ℕ, _<_, _≤_}
 use lib.Dec.{eqb}
 use Rattle.std.proofs.shelf.Tests.{eqb-true, le-leb, lt-ltb}
@@ -21,8 +21,8 @@ use Rattle.machine.specs.World.{World, starting, started}
 use Rattle.safety.specs.Checked.{Checked, types}
 use Rattle.safety.specs.Notes.{notes}
 use Rattle.safety.specs.Owners.{tasks-owning, owners-of, frames-known, owners}
-use Rattle.safety.specs.Runs.{runs}
-use Rattle.safety.specs.Safe.{Safe, Table-safe}
+use Rattle.safety.specs.Runs.{runs, Ran, ran-step, ran, turns-of}
+use Rattle.safety.specs.Safe.{Safe-now, Safe, Table-safe, Run-safe}
 use Rattle.safety.proofs.Notes.{accepted-checked, notes-types}
 use Rattle.safety.proofs.Promise.{Well, runs-well, start-well, never-stuck, no-clash, few-owners, known}
 
@@ -51,8 +51,22 @@ accepted-safe p formed shaped v m W turns h =
     record {
       never-stuck = never-stuck p (notes p) ck N w;
       no-clash = no-clash p (notes p) ck N w;
-      one-owner = λ scratch o l k. (owners-of p N o, answered p N scratch o v (known p (notes p) ck N w) l k,
-        subst (λ (ts : ℕ → ℕ → List Ty). tasks-owning ts (N .tasks) o ≤ 1) (notes-types p) (few-owners p (notes p) ck N w o)) }
+      one-owner = λ scratch o l k. (
+        owners-of p N o,
+        answered p N scratch o v (known p (notes p) ck N w) l k,
+        subst (λ (ts : ℕ → ℕ → List Ty). tasks-owning ts (N .tasks) o ≤ 1) (notes-types p) (few-owners p (notes p) ck N w o),
+      );
+    }
 
 pub table-safe : Table-safe
 table-safe b p h v = let f = program-stands b p h in accepted-safe p (f .0) (f .1) v
+
+-- steps of threads in turn are turns
+ran-is : (p : Program) (size : ℕ) (R : Ran) (threads : List ℕ) → ran p size R threads .world ≡ runs p (R .world) (turns-of p size R threads)
+ran-is p size R [] = refl
+ran-is p size R (i ∷ threads) = ran-is p size (ran-step p size R i) threads
+
+pub run-safe : Run-safe
+run-safe b p h v m W s size out threads =
+    let R : Ran = record { world = W; out = out } in
+    subst (Safe-now p) (sym (ran-is p size R threads)) (table-safe b p h v m W (turns-of p size R threads) s)

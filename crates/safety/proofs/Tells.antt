@@ -263,6 +263,6 @@ touched-ref p m (V.Number n) f t e = nothing e
 touched-ref p m (V.Reference o) f t e = go (ltb o (countOf m) && ltb f (length (fields p m (V.Reference o))) && is-var (field p m (V.Reference o) f .mode)) refl e
   where
     go : (b : Bool) → (ltb o (countOf m) && ltb f (length (fields p m (V.Reference o))) && is-var (field p m (V.Reference o) f .mode)) ≡ b → cond b (Some (o, f)) None ≡ Some t
-      → (V.Reference o ≡ V.Reference (t .0)) × (is-var (field p m (V.Reference (t .0)) f .mode) ≡ true)
+        → (V.Reference o ≡ V.Reference (t .0)) × (is-var (field p m (V.Reference (t .0)) f .mode) ≡ true)
     go false b k = nothing k
     go true b k = let q : (o, f) ≡ t = cc in let z : o ≡ t .0 = ap (λ (y : ℕ × ℕ). y .0) q in (ap V.Reference z, subst (λ (y : ℕ). is-var (field p m (V.Reference y) f .mode) ≡ true) z (and-parts _ _ b .1))

@@ -1,21 +1,17 @@
 -- From threads of frames to the flat configuration: one frame's change is a change of a few slots.
-use mathlib.Core.Path.{_≡_, refl, sym, ap, ap₂, subst, _∙_, fun-ext}
-use mathlib.Core.Bool.{Bool, true, false}
+use mathlib.Core.Path.{_≡_, refl, sym, ap, subst, _∙_, fun-ext}
 use mathlib.Core.List.{List, [], _∷_, _++_}
-use mathlib.Core.Logic.{_⊎_, inl, inr}
 use Prim.Native.Nat.{ℕ, suc, zero, _<_, _≤_}
 use native.Mathlib.Omega.{arith}
 use native.Mathlib.Decide.{ℕ-discrete}
 use lib.ListN.{getD, set, length}
 use Rattle.std.proofs.shelf.Lists.{getD-set-same, getD-set-other}
 use Rattle.machine.specs.declared.threads.Slot.{Slot}
-use Rattle.machine.specs.declared.threads.Slot.the-variants.{Empty, Null, Number, Reference}
 use Rattle.machine.specs.declared.threads.Frame.{Frame}
 use Rattle.machine.specs.World.{no-frame}
-use Rattle.safety.specs.Model.{Claim, num, pt, Structs, Spot, spot, Slots, Entry, out, here, spot?, put, Heap, Inv, rank}
-use Rattle.safety.specs.Step.{Mem, poke, shared, Sound, Step, do-share}
-use Rattle.safety.specs.Threads.{Scopes, typed, entryAt, frameAt, putFrame, flat}
-use Rattle.safety.proofs.Update.{put-at, put-off}
+use Rattle.safety.specs.Model.{Claim, Structs, Spot, spot, Slots, Entry, out, here, put, rank}
+use Rattle.safety.specs.Step.{Mem, shared, Sound, do-share}
+use Rattle.safety.specs.Threads.{Scopes, entryAt, frameAt, putFrame, flat}
 use Rattle.safety.proofs.Scope.{put-ind}
 use Rattle.safety.proofs.Keeps.{keeps}
 
@@ -27,9 +23,9 @@ pub put-of₂ : (σ σ′ : Slots) (x y : Spot) (a b : Entry) → ¬ (x ≡ y) �
 put-of₂ σ σ′ x y a b n ex ey k = put-of (put σ x a) σ′ y b ey (λ s m. put-ind (λ t e. ¬ (t ≡ y) → σ′ t ≡ e) σ x a (λ _. ex) (λ t l i. k t l i) s m)
 
 pub put-of₃ : (σ σ′ : Slots) (x y z : Spot) (a b c : Entry) → ¬ (x ≡ y) → ¬ (x ≡ z) → ¬ (y ≡ z) → σ′ x ≡ a → σ′ y ≡ b → σ′ z ≡ c → ((s : Spot) → ¬ (s ≡ x) → ¬ (s ≡ y) → ¬ (s ≡ z) → σ′ s ≡ σ s)
-  → put (put (put σ x a) y b) z c ≡ σ′
+    → put (put (put σ x a) y b) z c ≡ σ′
 put-of₃ σ σ′ x y z a b c nxy nxz nyz ex ey ez k = put-of (put (put σ x a) y b) σ′ z c ez
-  (λ s m. put-ind (λ t e. ¬ (t ≡ z) → σ′ t ≡ e) (put σ x a) y b (λ _. ey) (λ t l. put-ind (λ t e. ¬ (t ≡ y) → ¬ (t ≡ z) → σ′ t ≡ e) σ x a (λ _ _. ex) (λ t i j h. k t i j h) t l) s m)
+    (λ s m. put-ind (λ t e. ¬ (t ≡ z) → σ′ t ≡ e) (put σ x a) y b (λ _. ey) (λ t l. put-ind (λ t e. ¬ (t ≡ y) → ¬ (t ≡ z) → σ′ t ≡ e) σ x a (λ _ _. ex) (λ t i j h. k t i j h) t l) s m)
 
 -- an entry of a frame, after one more binding, another value, another type
 pub entry-bind : (vs : List Slot) (sc : List (List Claim)) (v : Slot) (t : Claim) → length sc < length vs → entryAt (set vs (length sc) v) (sc ++ ((t ∷ []) ∷ [])) (length sc) ≡ here v t []
@@ -98,15 +94,15 @@ module _ (S : Scopes) (M : List (List Frame)) (i j : ℕ) (F : Frame) (hi : i < 
       go (no n) d = ap (λ (G : Frame). entryAt (G .slots) (S (G .function) (G .index)) k) (frame-thread a b n)
       go (yes e) (no n) = subst (λ (a : ℕ). flat S (putFrame M i j F) (spot a b k) ≡ flat S M (spot a b k)) (sym e) (ap (λ (G : Frame). entryAt (G .slots) (S (G .function) (G .index)) k) (frame-frame b n))
       go (yes e) (yes e′) =
-        let p′ : P (spot i j k) = subst (λ (a : ℕ). P (spot a j k)) e (subst (λ (b : ℕ). P (spot a b k)) e′ p) in
-        subst (λ (a : ℕ). flat S (putFrame M i j F) (spot a b k) ≡ flat S M (spot a b k)) (sym e)
-        (subst (λ (b : ℕ). flat S (putFrame M i j F) (spot i b k) ≡ flat S M (spot i b k)) (sym e′) (flat-same k ∙ h k p′))
+          let p′ : P (spot i j k) = subst (λ (a : ℕ). P (spot a j k)) e (subst (λ (b : ℕ). P (spot a b k)) e′ p) in
+          subst (λ (a : ℕ). flat S (putFrame M i j F) (spot a b k) ≡ flat S M (spot a b k)) (sym e)
+          (subst (λ (b : ℕ). flat S (putFrame M i j F) (spot i b k) ≡ flat S M (spot i b k)) (sym e′) (flat-same k ∙ h k p′))
 
 -- what a binding of a frame is in the flat configuration
 pub flat-bind : (S : Scopes) (M : List (List Frame)) (i j line′ : ℕ) (v : Slot) (t : Claim) → i < length M → j < length (getD M i [])
-  → length (S (frameAt M i j .function) (frameAt M i j .index)) < length (frameAt M i j .slots)
-  → S (frameAt M i j .function) line′ ≡ S (frameAt M i j .function) (frameAt M i j .index) ++ ((t ∷ []) ∷ [])
-  → put (flat S M) (spot i j (length (S (frameAt M i j .function) (frameAt M i j .index)))) (here v t [])
+    → length (S (frameAt M i j .function) (frameAt M i j .index)) < length (frameAt M i j .slots)
+    → S (frameAt M i j .function) line′ ≡ S (frameAt M i j .function) (frameAt M i j .index) ++ ((t ∷ []) ∷ [])
+    → put (flat S M) (spot i j (length (S (frameAt M i j .function) (frameAt M i j .index)))) (here v t [])
     ≡ flat S (putFrame M i j (record { function = frameAt M i j .function; index = line′; slots = set (frameAt M i j .slots) (length (S (frameAt M i j .function) (frameAt M i j .index))) v }))
 flat-bind S M i j line′ v t hi hj room next = put-of (flat S M) (flat S (putFrame M i j F)) (spot i j z) (here v t [])
     (flat-same S M i j F hi hj z ∙ ap (λ (q : List (List Claim)). entryAt (set vs z v) q z) next ∙ entry-bind vs sc v t room)
@@ -114,21 +110,24 @@ flat-bind S M i j line′ v t hi hj room next = put-of (flat S M) (flat S (putFr
   where
     vs : List Slot
     vs = frameAt M i j .slots
+
     sc : List (List Claim)
     sc = S (frameAt M i j .function) (frameAt M i j .index)
+
     z : ℕ
     z = length sc
+
     F : Frame
     F = record { function = frameAt M i j .function; index = line′; slots = set vs z v }
 
 -- an example: share, on threads of frames
 pub share-threads : (St : Structs) (S : Scopes) (M : List (List Frame)) (R : Mem) (i j line′ x : ℕ) (v : Slot) (t : Claim) (ts : List Claim) → i < length M → j < length (getD M i [])
-  → length (S (frameAt M i j .function) (frameAt M i j .index)) < length (frameAt M i j .slots)
-  → flat S M (spot i j x) ≡ here v t ts → rank t ≤ 1
-  → S (frameAt M i j .function) line′ ≡ S (frameAt M i j .function) (frameAt M i j .index) ++ ((shared t ∷ []) ∷ [])
-  → (spare : Spot) → flat S M spare ≡ out
-  → Sound St (flat S M) R → Sound St (flat S (putFrame M i j (record { function = frameAt M i j .function; index = line′; slots = set (frameAt M i j .slots) (length (S (frameAt M i j .function) (frameAt M i j .index))) v }))) R
+    → length (S (frameAt M i j .function) (frameAt M i j .index)) < length (frameAt M i j .slots)
+    → flat S M (spot i j x) ≡ here v t ts → rank t ≤ 1
+    → S (frameAt M i j .function) line′ ≡ S (frameAt M i j .function) (frameAt M i j .index) ++ ((shared t ∷ []) ∷ [])
+    → (spare : Spot) → flat S M spare ≡ out
+    → Sound St (flat S M) R → Sound St (flat S (putFrame M i j (record { function = frameAt M i j .function; index = line′; slots = set (frameAt M i j .slots) (length (S (frameAt M i j .function) (frameAt M i j .index))) v }))) R
 share-threads St S M R i j line′ x v t ts hi hj room ex r next spare es sound =
-  subst (λ (a : Slots). Sound St a R) (flat-bind S M i j line′ v (shared t) hi hj room next)
+    subst (λ (a : Slots). Sound St a R) (flat-bind S M i j line′ v (shared t) hi hj room next)
     (keeps St (flat S M) (put (flat S M) (spot i j (length (S (frameAt M i j .function) (frameAt M i j .index)))) (here v (shared t) [])) R R spare es
-      (do-share (spot i j (length (S (frameAt M i j .function) (frameAt M i j .index)))) (spot i j x) v t ts ex r) sound)
+    (do-share (spot i j (length (S (frameAt M i j .function) (frameAt M i j .index)))) (spot i j x) v t ts ex r) sound)

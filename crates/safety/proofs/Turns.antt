@@ -4,7 +4,7 @@ use mathlib.Core.Bool.{true, _||_}
 use mathlib.Core.List.{List, []}
 use Prim.Native.Nat.{ℕ, suc, _-_}
 use lib.ListN.{getD, length}
-use Rattle.std.proofs.shelf.Tests.{and-parts, not-true}
+use Rattle.std.proofs.shelf.Tests.{and-parts, not-true, lt-ltb, cond-true}
 use Rattle.std.specs.declared.option.Option.{Option}
 use Rattle.std.specs.declared.option.Option.the-variants.{Some}
 use Rattle.table.specs.declared.types.Ty.{Ty}
@@ -22,7 +22,7 @@ use Rattle.memory.specs.Model.{Store}
 use Rattle.machine.specs.declared.threads.Slot.the-variants as V
 use Rattle.machine.specs.declared.threads.Frame.{Frame}
 use Rattle.machine.specs.World.{op-at}
-use Rattle.machine.specs.Ways.{newest, value}
+use Rattle.machine.specs.Ways.{standing, value}
 use Rattle.machine.specs.Steps.{taking}
 use Rattle.machine.specs.Reading.{field}
 use Rattle.machine.specs.Clashes.{touch-by}
@@ -34,7 +34,7 @@ use Rattle.safety.proofs.Typed.{in-scope}
 use Rattle.safety.proofs.Chains.{op-there}
 use Rattle.safety.proofs.Ground.{saved-at, field-is}
 use Rattle.safety.proofs.Tells.{owned-by, held-from, alias-not, nothing, touched-ref}
-use Rattle.safety.proofs.Poised.{Poised, Fd, Good, Kd, Operand, Sd, Wd, act, base, fine, holds-as, operand, placed, struct-at}
+use Rattle.safety.proofs.Poised.{Poised, Fd, Good, Kd, Operand, Sd, Wd, act, base, fine, holds-as, operand, placed, some-frame, struct-at}
 use Rattle.safety.proofs.Bindings.{add-good, emit-good, get-good, int-good, join-good, new-good, null-good, own-good, set-good, share-good, take-good}
 use Rattle.safety.proofs.Testing.{equal-good, fix-good, less-good, link-good, nil-good, same-good, stable-good, swap-good, try-good, unlink-good}
 use Rattle.safety.proofs.Calling.{again-good, call-good, fork-good, return-good}
@@ -101,25 +101,28 @@ module _ (X : Poised) where
   pub op-is : op-at p F ≡ Some (fine X .op)
   op-is = op-there p F (placed X) ∙ fine X .is
 
+  stands : standing p fs ≡ Some (fine X .op)
+  stands = cond-true _ _ _ (lt-ltb 0 (length fs) (some-frame X)) ∙ op-is
+
   -- a step of the thread
-  pub steps : (threads room : ℕ) → Good X (taking p m fs threads room (op-at p (newest fs)))
-  steps threads room = subst (λ (o : Option Op). Good X (taking p m fs threads room o)) (sym op-is)
-    (turn (fine X .op) threads room op-is (holds-all (premises p (callee p (F .function)) ts (fine X .op)) (fine X .held)) (fine X .leads) (fine X .bytes))
+  pub steps : (threads room : ℕ) → Good X (taking p m fs threads room (standing p fs))
+  steps threads room = subst (λ (o : Option Op). Good X (taking p m fs threads room o)) (sym stands)
+      (turn (fine X .op) threads room op-is (holds-all (premises p (callee p (F .function)) ts (fine X .op)) (fine X .held)) (fine X .leads) (fine X .bytes))
 
   -- a thread that touches a var field owns its object
   pub owner : (x o : ℕ) → Operand X x → value p m fs x ≡ V.Reference o → (is-owned (Kd X x) || is-pristine (Kd X x)) ≡ true → C.ownE (flat (scopes A) Ms (C.spot i J x)) ≡ suc o
   owner x o u e h = ap C.ownE (in-scope (structs-of p) (scopes A) Ms (mem m) i J (act X) (base X .sound) x (V.Reference o) (core (slot ts x)) (saved-at sc x) (holds-as X x u (V.Reference o) e (core (slot ts x)) refl))
-    ∙ owned-by (Kd X x) (Sd X x) (Wd X x) (suc o) h
+      ∙ owned-by (Kd X x) (Sd X x) (Wd X x) (suc o) h
 
   pub var-field : (x f o : ℕ) → Operand X x → value p m fs x ≡ V.Reference o → is-var (field p m (V.Reference o) f .mode) ≡ true → is-var (Fd X x f .mode) ≡ true
   var-field x f o u e h = ap (λ (d : Field). is-var (d .mode)) (sym (field-is p m (V.Reference o) o refl (Sd X x) f (struct-at X x u o e .1))) ∙ h
 
   pub touches-own : (op : Op) → Holds (premises p (callee p (F .function)) ts op) → (t : ℕ × ℕ) → touch-by p m fs (Some op) ≡ Some t → (x : ℕ) × (C.ownE (flat (scopes A) Ms (C.spot i J x)) ≡ suc (t .0))
   touches-own (Get z x f) h t e =
-    let a = touched-ref p m (value p m fs x) f t e in
-    let u = operand X x (h .1 .0) in
-    let v = var-field x f (t .0) u (a .0) (a .1) in
-    (x, owner x (t .0) u (a .0) (held-from (Kd X x) (not-true _ (h .1 .1 .0)) (alias-not (is-var (Fd X x f .mode)) (is-alias (Kd X x)) (not-true _ (h .1 .1 .1 .1 .0)) v)))
+      let a = touched-ref p m (value p m fs x) f t e in
+      let u = operand X x (h .1 .0) in
+      let v = var-field x f (t .0) u (a .0) (a .1) in
+      (x, owner x (t .0) u (a .0) (held-from (Kd X x) (not-true _ (h .1 .1 .0)) (alias-not (is-var (Fd X x f .mode)) (is-alias (Kd X x)) (not-true _ (h .1 .1 .1 .1 .0)) v)))
   touches-own (Take z x f) h t e = let a = touched-ref p m (value p m fs x) f t e in (x, owner x (t .0) (operand X x (h .1 .0)) (a .0) (h .1 .1 .0))
   touches-own (Set z x f y) h t e = let a = touched-ref p m (value p m fs x) f t e in (x, owner x (t .0) (operand X x (and-parts _ _ (and-parts _ _ (h .1 .0) .0) .0)) (a .0) (h .1 .1 .0))
   touches-own (New z s) h t e = nothing e
@@ -136,5 +139,5 @@ module _ (X : Poised) where
   touches-own (Emit x) h t e = nothing e
   touches-own (Ask q a b) h t e = nothing e
 
-  pub touch-owns : (t : ℕ × ℕ) → touch-by p m fs (op-at p F) ≡ Some t → (x : ℕ) × (C.ownE (flat (scopes A) Ms (C.spot i J x)) ≡ suc (t .0))
-  touch-owns t e = touches-own (fine X .op) (holds-all (premises p (callee p (F .function)) ts (fine X .op)) (fine X .held)) t (ap (touch-by p m fs) (sym op-is) ∙ e)
+  pub touch-owns : (t : ℕ × ℕ) → touch-by p m fs (standing p fs) ≡ Some t → (x : ℕ) × (C.ownE (flat (scopes A) Ms (C.spot i J x)) ≡ suc (t .0))
+  touch-owns t e = touches-own (fine X .op) (holds-all (premises p (callee p (F .function)) ts (fine X .op)) (fine X .held)) t (ap (touch-by p m fs) (sym stands) ∙ e)

@@ -1,10 +1,9 @@
 -- What one change of a slot or of a cell leaves as it was.
-use mathlib.Core.Path.{_≡_, refl, sym, ap, subst, _∙_}
+use mathlib.Core.Path.{_≡_, refl}
 use mathlib.Core.Bool.{Bool, true, false}
-use mathlib.Core.Logic.{_⊎_, inl, inr}
-use Prim.Native.Nat.{ℕ, suc, zero, _<_, _≤_}
+use Prim.Native.Nat.{ℕ}
 use native.Mathlib.Omega.{arith}
-use Rattle.safety.specs.Model.{Heap, Cell, Spot, Slots, Entry, Place, at, cell, choose, put, wr, spot?, place?}
+use Rattle.safety.specs.Model.{Heap, Cell, Spot, Slots, Entry, at, cell, choose, put, wr, spot?, place?}
 
 pub choose-yes : {A B : Type 0} (d : Dec A) (x y : B) → A → choose d x y ≡ x
 choose-yes (yes a) x y h = refl

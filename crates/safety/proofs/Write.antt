@@ -2,16 +2,13 @@
 use mathlib.Core.Path.{_≡_, refl, sym, ap, subst, _∙_}
 use mathlib.Core.Bool.{Bool, true, false}
 use mathlib.Core.Logic.{_⊎_, inl, inr}
-use Prim.Native.Nat.{ℕ, suc, zero, _<_, _≤_}
+use Prim.Native.Nat.{ℕ, suc}
 use native.Mathlib.Omega.{arith}
 use native.Mathlib.Nat.{le-refl}
-use Rattle.table.specs.declared.types.Mode.the-variants.{Var, Val, Once, Spec}
-use Rattle.machine.specs.declared.threads.Slot.{Slot}
-use Rattle.machine.specs.declared.threads.Slot.the-variants.{Empty, Null, Number, Reference}
-use Rattle.safety.specs.Model.{Right, alias, owned, pristine, Claim, num, pt, Structs, Cell, Heap, Slots, Spot, Entry, out, here, Place, at, cell, spot?, place?, put, wr, nameOf, rank, ownTy, prisTy, nameE, ownE, prisE, nameC, ownC, structOf, modeAt, fieldAt, Stable, Dead, Obj, Part, Conf, Saved, EntryOK, CellOK, Inv, name, own, pris, Has}
+use Rattle.safety.specs.Model.{Structs, Cell, Heap, Slots, Spot, Entry, Place, at, cell, spot?, place?, put, wr, nameE, ownE, prisE, nameC, ownC, fieldAt, Stable, Dead, EntryOK, CellOK, Inv, name, own, pris}
 use Rattle.safety.proofs.Update.{put-at, put-off, wr-at, wr-off, cell-inj, at-inj, not-both}
 use Rattle.safety.proofs.Places.{Unique, Sole, Sub, unique-less, unique-swap, sole-gain}
-use Rattle.safety.proofs.Frame.{Grows, KeepA, KeepO, KeepP, conf-frame, saved-frame, entry-frame, cell-frame}
+use Rattle.safety.proofs.Frame.{Grows, KeepA, KeepO, KeepP, entry-frame, cell-frame}
 
 not-at-cell : {s : Spot} {o f : ℕ} → at s ≡ cell o f → ⊥
 not-at-cell e = let z : _≡_ {A = ℕ} 0 1 = cc in omega arith
@@ -22,14 +19,15 @@ module _ (St : Structs) where
   wr-grows H p f c keep = record {
     more = le-refl (H .size);
     kinds = λ o l. refl;
-    stays = λ o g l s. elim s [ inl x ↦ inl x | inr x ↦ inr (go o g x (place? (cell o g) (cell p f))) ] }
+    stays = λ o g l s. elim s [ inl x ↦ inl x | inr x ↦ inr (go o g x (place? (cell o g) (cell p f))) ];
+  }
     where
       go : (o g : ℕ) → H .mem o g .mark ≡ true → Dec (cell o g ≡ cell p f) → wr H p f c .mem o g .mark ≡ true
       go o g x (no n) = ap (λ (k : Cell). k .mark) (wr-off H p f c o g n) ∙ x
       go o g x (yes e) =
-        let i = cell-inj e in
-        let a : H .mem p f .mark ≡ true = rw (← (i .0), ← (i .1)) x in
-        rw (i .0, i .1, wr-at H p f c) (keep a)
+          let i = cell-inj e in
+          let a : H .mem p f .mark ≡ true = rw (← (i .0), ← (i .1)) x in
+          rw (i .0, i .1, wr-at H p f c) (keep a)
 
   -- a field of the new heap that is dead was so before, or is the one that was written
   pub wr-dead : (H : Heap) (p f : ℕ) (c : Cell) (o g : ℕ) → Dead St (wr H p f c) o g → Dead St H o g ⊎ ((o ≡ p) × (g ≡ f) × (c .dead ≡ true))
@@ -38,8 +36,8 @@ module _ (St : Structs) where
       go : Dec (cell o g ≡ cell p f) → Dead St H o g ⊎ ((o ≡ p) × (g ≡ f) × (c .dead ≡ true))
       go (no n) = inl (ap (λ (k : Cell). k .dead) (sym (wr-off H p f c o g n)) ∙ d)
       go (yes e) = let i = cell-inj e in
-        let a : wr H p f c .mem p f .dead ≡ true = rw (i .0, i .1) at d in
-        inr (i .0, i .1, ap (λ (k : Cell). k .dead) (sym (wr-at H p f c)) ∙ a)
+          let a : wr H p f c .mem p f .dead ≡ true = rw (i .0, i .1) at d in
+          inr (i .0, i .1, ap (λ (k : Cell). k .dead) (sym (wr-at H p f c)) ∙ a)
 
   pub wr-mark : (H : Heap) (p f : ℕ) (c : Cell) (o g : ℕ) → (o ≡ p → c .mark ≡ true → H .mem p f .mark ≡ true) → H .mem o g .mark ≡ false → wr H p f c .mem o g .mark ≡ false
   wr-mark H p f c o g k d = go (place? (cell o g) (cell p f))
@@ -47,11 +45,12 @@ module _ (St : Structs) where
       off : (b : Bool) → (b ≡ true → H .mem p f .mark ≡ true) → H .mem p f .mark ≡ false → b ≡ false
       off true j h = absurd (not-both (j refl) h)
       off false j h = refl
+
       go : Dec (cell o g ≡ cell p f) → wr H p f c .mem o g .mark ≡ false
       go (no n) = ap (λ (m : Cell). m .mark) (wr-off H p f c o g n) ∙ d
       go (yes e) = let i = cell-inj e in
-        let a : H .mem p f .mark ≡ false = rw (← (i .0), ← (i .1)) d in
-        rw (i .0, i .1, wr-at H p f c) (off (c .mark) (k (i .0)) a)
+          let a : H .mem p f .mark ≡ false = rw (← (i .0), ← (i .1)) d in
+          rw (i .0, i .1, wr-at H p f c) (off (c .mark) (k (i .0)) a)
 
   -- the slot z gets the entry e, and the cell (p, f) becomes c; x is a slot whose entry is shown to be right by itself (often z again)
   pub record Written (σ : Slots) (H : Heap) (z x : Spot) (e : Entry) (p f : ℕ) (c : Cell) : Type 0 where
@@ -80,14 +79,20 @@ module _ (St : Structs) where
     grows = wr-grows H p f c (w .keep)
 
     keepA : (r : Place) → ¬ (r ≡ at z) → ¬ (r ≡ at x) → KeepA St H (wr H p f c) (name St σ H r)
-    keepA r n m o h g d = elim (wr-dead H p f c o g d) [ inl a ↦ inl a | inr a ↦ 
-      (let h′ : name St σ H r ≡ suc p = h ∙ ap suc (a .0) in
-       rw (a .0, a .1) (w .needA r n m h′ (a .2))) ]
+    keepA r n m o h g d = elim (wr-dead H p f c o g d) [
+      | inl a ↦ inl a
+      | inr a ↦
+          (let h′ : name St σ H r ≡ suc p = h ∙ ap suc (a .0) in
+          rw (a .0, a .1) (w .needA r n m h′ (a .2)))
+    ]
 
     keepO : (r : Place) → ¬ (r ≡ at z) → ¬ (r ≡ at x) → ¬ (r ≡ cell p f) → KeepO St H (wr H p f c) (own St σ H r)
-    keepO r n m l o h g d = elim (wr-dead H p f c o g d) [ inl a ↦ a | inr a ↦ 
-      (let h′ : own St σ H r ≡ suc p = h ∙ ap suc (a .0) in
-       rw (a .0, a .1) (w .needO r n m l h′ (a .2))) ]
+    keepO r n m l o h g d = elim (wr-dead H p f c o g d) [
+      | inl a ↦ a
+      | inr a ↦
+          (let h′ : own St σ H r ≡ suc p = h ∙ ap suc (a .0) in
+          rw (a .0, a .1) (w .needO r n m l h′ (a .2)))
+    ]
 
     keepP : (s : Spot) → ¬ (s ≡ z) → ¬ (s ≡ x) → KeepP St H (wr H p f c) (pris St σ s)
     keepP s n m o h g = wr-mark H p f c o g (λ i k. let h′ : pris St σ s ≡ suc p = h ∙ ap suc i in w .needP s n m h′ k)
@@ -99,8 +104,8 @@ module _ (St : Structs) where
         go (yes i) d = subst (λ (t : Entry). EntryOK St (wr H p f c) t) (sym (put-at σ z e) ∙ ap (λ (t : Spot). put σ z e t) (sym i)) (w .entry)
         go (no n) (yes j) = subst (λ (t : Entry). EntryOK St (wr H p f c) t) (ap σ (sym j) ∙ sym (put-off σ z e s n)) (w .beside (λ k. n (j ∙ k)))
         go (no n) (no m) = subst (λ (t : Entry). EntryOK St (wr H p f c) t) (sym (put-off σ z e s n))
-          (let n′ : ¬ (at s ≡ at z) = λ k. n (at-inj k) in let m′ : ¬ (at s ≡ at x) = λ k. m (at-inj k) in
-           entry-frame St H (wr H p f c) grows (σ s) (inv .slots s) (keepA (at s) n′ m′) (keepO (at s) n′ m′ not-at-cell) (keepP s n m))
+            (let n′ : ¬ (at s ≡ at z) = λ k. n (at-inj k) in let m′ : ¬ (at s ≡ at x) = λ k. m (at-inj k) in
+            entry-frame St H (wr H p f c) grows (σ s) (inv .slots s) (keepA (at s) n′ m′) (keepO (at s) n′ m′ not-at-cell) (keepP s n m))
 
     cells′ : (o g : ℕ) → CellOK St (wr H p f c) o g
     cells′ o g = go (place? (cell o g) (cell p f))
@@ -108,8 +113,8 @@ module _ (St : Structs) where
         go : Dec (cell o g ≡ cell p f) → CellOK St (wr H p f c) o g
         go (yes e) = let i = cell-inj e in rw (i .0, i .1) (w .cellok)
         go (no n) =
-          let n′ : ¬ (cell o g ≡ at z) = λ k. not-at-cell (sym k) in let m′ : ¬ (cell o g ≡ at x) = λ k. not-at-cell (sym k) in
-          cell-frame St H (wr H p f c) grows o g refl (wr-off H p f c o g n) (inv .cells o g) (keepA (cell o g) n′ m′) (keepO (cell o g) n′ m′ n)
+            let n′ : ¬ (cell o g ≡ at z) = λ k. not-at-cell (sym k) in let m′ : ¬ (cell o g ≡ at x) = λ k. not-at-cell (sym k) in
+            cell-frame St H (wr H p f c) grows o g refl (wr-off H p f c o g n) (inv .cells o g) (keepA (cell o g) n′ m′) (keepO (cell o g) n′ m′ n)
 
     own-at : own St (put σ z e) (wr H p f c) (at z) ≡ ownE e
     own-at = ap ownE (put-at σ z e)
@@ -133,8 +138,9 @@ module _ (St : Structs) where
 
     unique′ : Unique (own St (put σ z e) (wr H p f c))
     unique′ = elim (w .owns) [
-        inl k ↦ unique-swap (own St σ H) (own St (put σ z e) (wr H p f c)) (at z) (cell p f) (rw own-at (k .0)) (rw own-cell (k .1)) (λ r n m. inr (own-off r n m)) (inv .unique)
-      | inr k ↦ unique-less (own St σ H) (own St (put σ z e) (wr H p f c)) (λ r. less k r (place? r (at z)) (place? r (cell p f))) (inv .unique) ]
+      | inl k ↦ unique-swap (own St σ H) (own St (put σ z e) (wr H p f c)) (at z) (cell p f) (rw own-at (k .0)) (rw own-cell (k .1)) (λ r n m. inr (own-off r n m)) (inv .unique)
+      | inr k ↦ unique-less (own St σ H) (own St (put σ z e) (wr H p f c)) (λ r. less k r (place? r (at z)) (place? r (cell p f))) (inv .unique)
+    ]
       where
         less : Sub (ownE e) (own St σ H (at z)) × Sub (ownC (fieldAt St H p f) c) (own St σ H (cell p f)) → (r : Place) → Dec (r ≡ at z) → Dec (r ≡ cell p f) → Sub (own St (put σ z e) (wr H p f c) r) (own St σ H r)
         less k r (yes i) d = rw i (rw own-at (k .0))
@@ -147,6 +153,7 @@ module _ (St : Structs) where
         pr : (s : Spot) → Dec (s ≡ z) → Sub (pris St (put σ z e) s) (pris St σ s)
         pr s (yes i) = rw (i, put-at σ z e) (w .prist)
         pr s (no n) = inr (ap prisE (put-off σ z e s n))
+
         n : (r : Place) → Dec (r ≡ at z) → Dec (r ≡ cell p f) → Sub (name St (put σ z e) (wr H p f c) r) (name St σ H r) ⊎ (name St (put σ z e) (wr H p f c) r ≡ name St σ H (w .giver))
         n r (yes i) d = rw i (rw name-at (w .slot-name))
         n r (no k) (yes i) = rw i (rw name-cell (w .cell-name))

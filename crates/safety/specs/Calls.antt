@@ -1,14 +1,12 @@
 -- What a call, a fork, a return and again do to the frames.
-use mathlib.Core.Path.{_≡_, refl}
-use mathlib.Core.List.{List, [], _∷_, _++_}
-use Prim.Native.Nat.{ℕ, suc, zero}
-use lib.ListN.{getD, set, length}
+use mathlib.Core.Path.{_≡_}
+use mathlib.Core.List.{List, [], _∷_}
+use Prim.Native.Nat.{ℕ, suc}
+use lib.ListN.{getD, set}
 use Rattle.machine.specs.declared.threads.Slot.{Slot}
-use Rattle.machine.specs.declared.threads.Slot.the-variants.{Empty, Null, Number, Reference}
-use Rattle.machine.specs.declared.threads.Frame.{Frame}
-use Rattle.safety.specs.Model.{Claim, Spot, spot, Slots, Entry, out, here}
+use Rattle.machine.specs.declared.threads.Slot.the-variants.{Empty}
+use Rattle.safety.specs.Model.{Claim, spot}
 use Rattle.safety.specs.Frames.{Arg, kept}
-use Rattle.safety.specs.Threads.{frameAt}
 
 -- the arguments: slots of the frame (i, j), with the types of the parameters, which are slots k, k + 1, .. of the frame (i′, j′)
 abbrev pub argsTo : ℕ → ℕ → ℕ → ℕ → ℕ → List (ℕ × Claim) → List Arg

@@ -1,6 +1,6 @@
 -- A program with an annotation of scopes that fits it record by record: what soundness asks of the rules, and all that it asks.
 use mathlib.Core.Path.{_≡_}
-use mathlib.Core.Bool.{Bool, true, false, _||_}
+use mathlib.Core.Bool.{true, false, _||_}
 use mathlib.Core.List.{List, [], _∷_, _++_, map}
 use Prim.Native.Nat.{ℕ, suc, _+_, _<_, _≤_, _^_}
 use lib.ListN.{length, getD, set}
@@ -8,16 +8,13 @@ use Rattle.std.specs.declared.option.Option.{Option}
 use Rattle.std.specs.declared.option.Option.the-variants.{Some, None}
 use Rattle.table.specs.declared.types.Kind.{Kind}
 use Rattle.table.specs.declared.types.Kind.the-variants.{Number, Alias, Owned, Pristine}
-use Rattle.table.specs.declared.types.Mode.{Mode}
-use Rattle.table.specs.declared.types.Mode.the-variants.{Var, Val, Once, Spec}
 use Rattle.table.specs.declared.types.Ty.{Ty}
-use Rattle.table.specs.declared.types.Field.{Field}
 use Rattle.table.specs.Program.{Function, Program}
 use Rattle.table.specs.Types.{is-number, is-pristine, is-once, is-spec, keeps}
 use Rattle.table.specs.declared.records.Test.{Test}
 use Rattle.table.specs.declared.records.Test.the-variants.{Nil, Same, Equal, Less, Link, Unlink, Swap, Try, Fix, Stable}
-use Rattle.table.specs.Records.{Op, New, Null, Int, Share, Own, Get, Take, Set, Add, Call, Fork, Return, Again, Join, Emit, Ask}
-use Rattle.rules.specs.Rules.{first, no-field, callee, slot, premises, bound, withholding, with, field-type, record-at, declared}
+use Rattle.table.specs.Records.{Op}
+use Rattle.rules.specs.Rules.{first, callee, slot, premises, bound, withholding, with, field-type, record-at, declared}
 use Rattle.rules.specs.Scopes.{Shape, Plain, Last, Joins, Asks, shape}
 use Rattle.rules.specs.Formed.{Holds-bytes}
 use Rattle.safety.specs.Model as C

@@ -1,14 +1,14 @@
 -- Flow, and what is read from and written to a cell.
-use mathlib.Core.Path.{_≡_, refl}
+use mathlib.Core.Path.{_≡_}
 use mathlib.Core.Bool.{Bool, true, false}
-use mathlib.Core.List.{List, [], _∷_}
-use mathlib.Core.Logic.{_⊎_, inl, inr}
-use Prim.Native.Nat.{ℕ, suc, zero, _<_, _≤_}
+use mathlib.Core.List.{[]}
+use mathlib.Core.Logic.{_⊎_}
+use Prim.Native.Nat.{ℕ, suc}
 use native.Mathlib.Decide.{ℕ-discrete}
 use Rattle.machine.specs.declared.threads.Slot.{Slot}
-use Rattle.machine.specs.declared.threads.Slot.the-variants.{Empty, Null, Number, Reference}
+use Rattle.machine.specs.declared.threads.Slot.the-variants.{Null, Number, Reference}
 use Rattle.machine.specs.Values.{reference-of, word-of}
-use Rattle.safety.specs.Model.{Right, alias, owned, pristine, Claim, num, pt, Content, fnum, falias, fowned, Has, Cell, Heap, choose, Entry, out, here}
+use Rattle.safety.specs.Model.{Right, alias, owned, pristine, Claim, num, pt, Content, fnum, falias, fowned, Has, Cell, Heap, choose, Entry, here}
 
 -- one set is part of another
 abbrev pub Within : ℕ → ℕ → Type 0

@@ -1,10 +1,9 @@
 -- Calls, forks, returns and again: values that go to other slots together, and slots under other numbers.
-use mathlib.Core.Path.{_≡_, refl}
+use mathlib.Core.Path.{_≡_}
 use mathlib.Core.List.{List, [], _∷_}
-use Prim.Native.Nat.{ℕ, suc, zero}
 use Rattle.machine.specs.declared.threads.Slot.{Slot}
-use Rattle.machine.specs.declared.threads.Slot.the-variants.{Empty, Null, Number, Reference}
-use Rattle.safety.specs.Model.{Right, alias, owned, pristine, Claim, num, pt, Spot, Slots, Entry, out, here, put}
+use Rattle.machine.specs.declared.threads.Slot.the-variants.{Null}
+use Rattle.safety.specs.Model.{alias, owned, pristine, Claim, num, pt, Spot, Slots, Entry, out, here, put}
 use Rattle.safety.specs.Fields.{Flows}
 
 pub record Arg : Type 0 where

@@ -11,3 +11,5 @@ pub mod Notes
 pub mod Owners
 pub mod Runs
 pub mod Safe
+pub mod Words
+pub mod Rehearsals

@@ -1,9 +1,9 @@
 -- The flat configuration of the machine: what is in scope, the heap with its ghost marks, and the invariant of ownership.
-use mathlib.Core.Path.{_≡_, refl}
+use mathlib.Core.Path.{_≡_}
 use mathlib.Core.Bool.{Bool, true, false}
 use mathlib.Core.List.{List, [], _∷_}
-use mathlib.Core.Logic.{_⊎_, inl, inr}
-use Prim.Native.Nat.{ℕ, suc, zero, _<_, _≤_, _/_, _%_, _^_}
+use mathlib.Core.Logic.{_⊎_}
+use Prim.Native.Nat.{ℕ, suc, _<_, _≤_, _/_, _%_, _^_}
 use native.Mathlib.Decide.{ℕ-discrete}
 use Rattle.table.specs.declared.types.Mode.{Mode}
 use Rattle.table.specs.declared.types.Mode.the-variants.{Var, Val, Once, Spec}

@@ -32,3 +32,8 @@ ran-step p size R i =
 abbrev pub ran : Program → ℕ → Ran → List ℕ → Ran
 ran p size R [] = R
 ran p size R (i ∷ is) = ran p size (ran-step p size R i) is
+
+-- the turns that those steps are
+abbrev pub turns-of : Program → ℕ → Ran → List ℕ → List (ℕ × ℕ)
+turns-of p size R [] = []
+turns-of p size R (i ∷ is) = (i, size - length (R .out)) ∷ turns-of p size (ran-step p size R i) is

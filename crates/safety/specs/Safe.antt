@@ -12,7 +12,7 @@ use Rattle.machine.specs.World.{World, started}
 use Rattle.machine.specs.Steps.{stepped}
 use Rattle.machine.specs.Clashes.{clashes}
 use Rattle.safety.specs.Owners.{owners}
-use Rattle.safety.specs.Runs.{runs}
+use Rattle.safety.specs.Runs.{runs, ran}
 
 -- a machine with its memory, as a run has left them
 pub record Safe-now (p : Program) (W : World) : Type 0 where
@@ -30,3 +30,8 @@ Safe p = (m : Store) (W : World) (turns : List (ℕ × ℕ)) → started m ≡ O
 -- every table that is read and accepted
 abbrev pub Table-safe : Type 0
 Table-safe = (b : List ℕ) (p : Program) → program b ≡ Ok p → verdict p ≡ Ok tt → Safe p
+
+-- and so after every list of threads that step in turn, with any list for the numbers put out
+abbrev pub Run-safe : Type 0
+Run-safe = (b : List ℕ) (p : Program) → program b ≡ Ok p → verdict p ≡ Ok tt
+    → (m : Store) (W : World) → started m ≡ Ok W → (size : ℕ) (out threads : List ℕ) → Safe-now p (ran p size (record { world = W; out = out }) threads .world)

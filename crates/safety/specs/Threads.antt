@@ -1,14 +1,13 @@
 -- Threads of frames, and the slots in scope of all of them as one flat configuration.
-use mathlib.Core.Path.{_≡_, refl}
-use mathlib.Core.List.{List, [], _∷_, _++_}
-use mathlib.Core.Logic.{_⊎_, inl, inr}
+use mathlib.Core.Path.{_≡_}
+use mathlib.Core.List.{List, [], _∷_}
+use mathlib.Core.Logic.{_⊎_}
 use Prim.Native.Nat.{ℕ, suc, zero}
-use lib.ListN.{getD, set, length}
+use lib.ListN.{getD, set}
 use Rattle.machine.specs.declared.threads.Slot.{Slot}
-use Rattle.machine.specs.declared.threads.Slot.the-variants.{Empty, Null, Number, Reference}
 use Rattle.machine.specs.declared.threads.Frame.{Frame}
 use Rattle.machine.specs.World.{no-frame}
-use Rattle.safety.specs.Model.{Claim, Spot, spot, Slots, Entry, out, here}
+use Rattle.safety.specs.Model.{Claim, spot, Slots, Entry, out, here}
 
 -- what the rules say is in scope before a record of a function: for each slot its type, and the types that come back
 abbrev pub Scopes : Type 0

@@ -1,22 +1,20 @@
 -- A record that the rules allow, taken by the newest frame of a thread: the step of the machine, with what the rules know before it.
-use mathlib.Core.Path.{_≡_, refl}
-use mathlib.Core.Bool.{Bool, true, false}
+use mathlib.Core.Path.{_≡_}
+use mathlib.Core.Bool.{true, false}
 use mathlib.Core.List.{List, [], _∷_, _++_}
-use mathlib.Core.Logic.{_⊎_, inl, inr}
-use Prim.Native.Nat.{ℕ, suc, zero, _<_, _≤_}
+use mathlib.Core.Logic.{_⊎_}
+use Prim.Native.Nat.{ℕ, suc, _<_, _≤_}
 use lib.ListN.{getD, set, length, replicate}
-use Rattle.table.specs.declared.types.Mode.{Mode}
 use Rattle.table.specs.declared.types.Mode.the-variants.{Var, Val, Once, Spec}
 use Rattle.machine.specs.declared.threads.Slot.{Slot}
 use Rattle.machine.specs.declared.threads.Slot.the-variants.{Empty, Null, Number, Reference}
 use Rattle.machine.specs.Values.{word-of}
 use Rattle.machine.specs.declared.threads.Frame.{Frame}
-use Rattle.safety.specs.Model.{Right, alias, owned, pristine, Claim, num, pt, Content, fnum, falias, fowned, Structs, Has, Spot, spot, Slots, rank}
+use Rattle.safety.specs.Model.{Right, alias, owned, pristine, Claim, num, pt, falias, fowned, Structs, Has, rank}
 use Rattle.safety.specs.Fields.{With, Without, Alone, Flows, tyOf, lent, valOf, spent}
 use Rattle.safety.specs.Step.{Mem, poke, added, shared, Writable, RefTo, Plain}
-use Rattle.safety.specs.Threads.{Scopes, frameAt, flat, FallsSc, advance}
+use Rattle.safety.specs.Threads.{Scopes, frameAt, FallsSc, advance}
 use Rattle.safety.specs.Calls.{spendVals, givenVals, paramScope, IsFrame}
-use Rattle.safety.specs.Kept.{void, Kept}
 
 -- the arguments of a call: each in scope with a type that flows to the parameter's, no slot twice
 abbrev pub NotIn : ℕ → List (ℕ × Claim) → Type 0
@@ -74,63 +72,55 @@ module _ (St : Structs) (S : Scopes) where
     t-null : (line′ s : ℕ) → fresh M i j < 16 → Bound M i j line′ (pt pristine s 0) → Typed M R i j (advance M i j line′ (set (vals M i j) (fresh M i j) Null)) R
     t-new : (line′ s : ℕ) → fresh M i j < 16 → Bound M i j line′ (pt pristine s 0) → Typed M R i j (advance M i j line′ (set (vals M i j) (fresh M i j) (Reference (R .size)))) (added R s)
     t-share : (line′ x : ℕ) (v : Slot) (t : Claim) (ts : List Claim) → fresh M i j < 16 → Slotted M i j x v t ts → rank t ≤ 1 → Bound M i j line′ (shared t)
-      → Typed M R i j (advance M i j line′ (set (vals M i j) (fresh M i j) v)) R
+        → Typed M R i j (advance M i j line′ (set (vals M i j) (fresh M i j) v)) R
     t-own : (line′ x s : ℕ) (v : Slot) (ts : List Claim) → fresh M i j < 16 → Slotted M i j x v (pt pristine s 0) ts → Bound M i j line′ (pt owned s 0)
-      → Typed M R i j (advance M i j line′ (set (set (vals M i j) x Null) (fresh M i j) v)) R
+        → Typed M R i j (advance M i j line′ (set (set (vals M i j) x Null) (fresh M i j) v)) R
     t-get : (line′ x p f : ℕ) (k : Right) (s w : ℕ) (ts : List Claim) → fresh M i j < 16 → Slotted M i j x (Reference p) (pt k s w) ts → Bound M i j line′ (lent (St .field s f))
-      → Typed M R i j (advance M i j line′ (set (vals M i j) (fresh M i j) (valOf (St .field s f) (R .word p f)))) R
+        → Typed M R i j (advance M i j line′ (set (vals M i j) (fresh M i j) (valOf (St .field s f) (R .word p f)))) R
     t-take : (line′ x p f : ℕ) (k : Right) (s w : ℕ) (ts : List Claim) → fresh M i j < 16 → Slotted M i j x (Reference p) (pt k s w) ts → St .mode s f ≡ Var → Bound M i j line′ (tyOf (St .field s f))
-      → Typed M R i j (advance M i j line′ (set (vals M i j) (fresh M i j) (valOf (St .field s f) (R .word p f)))) (poke R p f 0 false)
+        → Typed M R i j (advance M i j line′ (set (vals M i j) (fresh M i j) (valOf (St .field s f) (R .word p f)))) (poke R p f 0 false)
     t-set : (line′ x y p f : ℕ) (k : Right) (s w w′ : ℕ) (v : Slot) (t : Claim) (xs ys : List Claim) → fresh M i j < 16 → ¬ (x ≡ y) → Slotted M i j x (Reference p) (pt k s w) xs → Slotted M i j y v t ys
-      → Writable k (St .mode s f) → Flows t (tyOf (St .field s f)) → Without w f w′ → Bound M i j line′ (pt k s w′)
-      → Typed M R i j (advance M i j line′ (set (set (set (vals M i j) y (spent (St .field s f) v)) x Null) (fresh M i j) (Reference p))) (poke R p f (word-of v) false)
+        → Writable k (St .mode s f) → Flows t (tyOf (St .field s f)) → Without w f w′ → Bound M i j line′ (pt k s w′)
+        → Typed M R i j (advance M i j line′ (set (set (set (vals M i j) y (spent (St .field s f) v)) x Null) (fresh M i j) (Reference p))) (poke R p f (word-of v) false)
     t-tentative : (line′ x y p f s w w′ s′ u : ℕ) (v : Slot) (xs ys : List Claim) → fresh M i j < 16 → ¬ (x ≡ y) → Slotted M i j x (Reference p) (pt pristine s w) xs → Slotted M i j y v (pt alias s′ u) ys
-      → (St .mode s f ≡ Var → ⊥) → (St .mode s f ≡ Once → ⊥) → St .field s f ≡ fowned s′ → With w f w′ → Bound M i j line′ (pt pristine s w′)
-      → Typed M R i j (advance M i j line′ (set (set (set (vals M i j) y Null) x Null) (fresh M i j) (Reference p))) (poke R p f (word-of v) false)
+        → (St .mode s f ≡ Var → ⊥) → (St .mode s f ≡ Once → ⊥) → St .field s f ≡ fowned s′ → With w f w′ → Bound M i j line′ (pt pristine s w′)
+        → Typed M R i j (advance M i j line′ (set (set (set (vals M i j) y Null) x Null) (fresh M i j) (Reference p))) (poke R p f (word-of v) false)
     t-swap : (line′ x y w p f : ℕ) (k : Right) (s u s′ u′ : ℕ) (v v′ : Slot) (t : Claim) (xs ys ws : List Claim) → ¬ (w ≡ y) → Plain k
-      → Slotted M i j x (Reference p) (pt k s u) xs → Slotted M i j y v (pt alias s′ u′) ys → Slotted M i j w v′ t ws
-      → St .mode s f ≡ Spec → RefTo (St .field s f) s′ → Flows t (tyOf (St .field s f)) → R .mark p f ≡ false → R .word p f ≡ word-of v → Pushed M i j line′ y (tyOf (St .field s f))
-      → Typed M R i j (advance M i j line′ (set (vals M i j) w (spent (St .field s f) v′))) (poke R p f (word-of v′) false)
+        → Slotted M i j x (Reference p) (pt k s u) xs → Slotted M i j y v (pt alias s′ u′) ys → Slotted M i j w v′ t ws
+        → St .mode s f ≡ Spec → RefTo (St .field s f) s′ → Flows t (tyOf (St .field s f)) → R .mark p f ≡ false → R .word p f ≡ word-of v → Pushed M i j line′ y (tyOf (St .field s f))
+        → Typed M R i j (advance M i j line′ (set (vals M i j) w (spent (St .field s f) v′))) (poke R p f (word-of v′) false)
     t-unlink : (line′ x y p f q g : ℕ) (k : Right) (s u s′ u′ u″ : ℕ) (xs ys : List Claim) → Plain k → Slotted M i j x (Reference p) (pt k s u) xs → Slotted M i j y (Reference q) (pt alias s′ u′) ys
-      → St .mode s f ≡ Spec → (St .mode s′ g ≡ Val) ⊎ Has u′ g → St .field s f ≡ fowned s′ → St .field s′ g ≡ fowned s′ → Alone u″ g → R .mark p f ≡ false → R .word p f ≡ suc q → Pushed M i j line′ y (pt owned s′ u″)
-      → Typed M R i j (advance M i j line′ (vals M i j)) (poke R p f (R .word q g) false)
+        → St .mode s f ≡ Spec → (St .mode s′ g ≡ Val) ⊎ Has u′ g → St .field s f ≡ fowned s′ → St .field s′ g ≡ fowned s′ → Alone u″ g → R .mark p f ≡ false → R .word p f ≡ suc q → Pushed M i j line′ y (pt owned s′ u″)
+        → Typed M R i j (advance M i j line′ (vals M i j)) (poke R p f (R .word q g) false)
     t-unlink-alias : (line′ x y p f q g : ℕ) (k : Right) (s u s′ u′ u″ : ℕ) (xs ys : List Claim) → Plain k → Slotted M i j x (Reference p) (pt k s u) xs → Slotted M i j y (Reference q) (pt alias s′ u′) ys
-      → St .mode s f ≡ Spec → (St .mode s′ g ≡ Val) ⊎ Has u′ g → St .field s f ≡ falias s′ → RefTo (St .field s′ g) s′ → Alone u″ g → R .mark p f ≡ false → R .word p f ≡ suc q → Pushed M i j line′ y (pt alias s′ u″)
-      → Typed M R i j (advance M i j line′ (vals M i j)) (poke R p f (R .word q g) false)
+        → St .mode s f ≡ Spec → (St .mode s′ g ≡ Val) ⊎ Has u′ g → St .field s f ≡ falias s′ → RefTo (St .field s′ g) s′ → Alone u″ g → R .mark p f ≡ false → R .word p f ≡ suc q → Pushed M i j line′ y (pt alias s′ u″)
+        → Typed M R i j (advance M i j line′ (vals M i j)) (poke R p f (R .word q g) false)
     t-link : (line′ x y p f q g : ℕ) (k : Right) (s u s′ u′ : ℕ) (xs ys : List Claim) → ¬ (x ≡ y) → Plain k → Slotted M i j x (Reference p) (pt k s u) xs → Slotted M i j y (Reference q) (pt pristine s′ u′) ys
-      → St .mode s f ≡ Spec → St .mode s′ g ≡ Val → St .field s f ≡ fowned s′ → St .field s′ g ≡ fowned s′ → Alone u′ g → R .mark p f ≡ false → R .word p f ≡ R .word q g → Next M i j line′ (scope M i j)
-      → Typed M R i j (advance M i j line′ (set (vals M i j) y Null)) (poke R p f (suc q) false)
+        → St .mode s f ≡ Spec → St .mode s′ g ≡ Val → St .field s f ≡ fowned s′ → St .field s′ g ≡ fowned s′ → Alone u′ g → R .mark p f ≡ false → R .word p f ≡ R .word q g → Next M i j line′ (scope M i j)
+        → Typed M R i j (advance M i j line′ (set (vals M i j) y Null)) (poke R p f (suc q) false)
     t-try : (line′ x y p f : ℕ) (k : Right) (s u u′ s′ : ℕ) (v : Slot) (xs ys : List Claim) → ¬ (x ≡ y) → Plain k → Slotted M i j x (Reference p) (pt k s u) xs → Slotted M i j y v (pt pristine s′ 0) ys
-      → St .mode s f ≡ Once → St .field s f ≡ fowned s′ → With u f u′ → R .mark p f ≡ false → Pushed M i j line′ x (pt k s u′)
-      → Typed M R i j (advance M i j line′ (set (vals M i j) y Null)) (poke R p f (word-of v) true)
+        → St .mode s f ≡ Once → St .field s f ≡ fowned s′ → With u f u′ → R .mark p f ≡ false → Pushed M i j line′ x (pt k s u′)
+        → Typed M R i j (advance M i j line′ (set (vals M i j) y Null)) (poke R p f (word-of v) true)
     t-fix : (line′ x p f : ℕ) (k : Right) (s u u′ : ℕ) (xs : List Claim) → Plain k → Slotted M i j x (Reference p) (pt k s u) xs → St .mode s f ≡ Spec → With u f u′ → Pushed M i j line′ x (pt k s u′)
-      → Typed M R i j (advance M i j line′ (vals M i j)) (poke R p f (R .word p f) true)
+        → Typed M R i j (advance M i j line′ (vals M i j)) (poke R p f (R .word p f) true)
     t-stable : (line′ x p f : ℕ) (k : Right) (s u u′ : ℕ) (xs : List Claim) → Plain k → Slotted M i j x (Reference p) (pt k s u) xs → R .mark p f ≡ true → With u f u′ → Pushed M i j line′ x (pt k s u′)
-      → Typed M R i j (advance M i j line′ (vals M i j)) R
+        → Typed M R i j (advance M i j line′ (vals M i j)) R
     -- call (the next frame of the thread) and fork (the first of a new one)
     t-call : (M′ : List (List Frame)) (i′ j′ n line′ : ℕ) (l : List (ℕ × Claim)) (rest : List Slot) → ¬ (IsFrame i j i′ j′) → frameAt M i′ j′ .slots ≡ []
-      → frameAt M′ i j ≡ record { function = frameAt M i j .function; index = line′; slots = spendVals (vals M i j) l } → Next M i j line′ (scope M i j)
-      → frameAt M′ i′ j′ ≡ record { function = n; index = 0; slots = givenVals (vals M i j) l rest } → S n 0 ≡ paramScope l
-      → ((a b : ℕ) → ¬ (IsFrame a b i j) → ¬ (IsFrame a b i′ j′) → frameAt M′ a b ≡ frameAt M a b)
-      → AllGiven (scope M i j) l → Typed M R i j M′ R
+        → frameAt M′ i j ≡ record { function = frameAt M i j .function; index = line′; slots = spendVals (vals M i j) l } → Next M i j line′ (scope M i j)
+        → frameAt M′ i′ j′ ≡ record { function = n; index = 0; slots = givenVals (vals M i j) l rest } → S n 0 ≡ paramScope l
+        → ((a b : ℕ) → ¬ (IsFrame a b i j) → ¬ (IsFrame a b i′ j′) → frameAt M′ a b ≡ frameAt M a b)
+        → AllGiven (scope M i j) l → Typed M R i j M′ R
     -- a return of x to the frame (i′, j′), which waits at a call
     t-return : (M′ : List (List Frame)) (i′ j′ x line′ : ℕ) (v : Slot) (t t₀ : Claim) (ts : List Claim) → ¬ (IsFrame i′ j′ i j) → fresh M i′ j′ < length (vals M i′ j′) → Slotted M i j x v t₀ ts → Flows t₀ t
-      → frameAt M′ i′ j′ ≡ record { function = frameAt M i′ j′ .function; index = line′; slots = set (vals M i′ j′) (fresh M i′ j′) v } → Bound M i′ j′ line′ t → frameAt M′ i j .slots ≡ []
-      → ((a b : ℕ) → ¬ (IsFrame a b i′ j′) → ¬ (IsFrame a b i j) → frameAt M′ a b ≡ frameAt M a b) → Typed M R i j M′ R
+        → frameAt M′ i′ j′ ≡ record { function = frameAt M i′ j′ .function; index = line′; slots = set (vals M i′ j′) (fresh M i′ j′) v } → Bound M i′ j′ line′ t → frameAt M′ i j .slots ≡ []
+        → ((a b : ℕ) → ¬ (IsFrame a b i′ j′) → ¬ (IsFrame a b i j) → frameAt M′ a b ≡ frameAt M a b) → Typed M R i j M′ R
     -- a return that ends its thread
     t-end : (M′ : List (List Frame)) → frameAt M′ i j .slots ≡ [] → ((a b : ℕ) → ¬ (IsFrame a b i j) → frameAt M′ a b ≡ frameAt M a b) → Typed M R i j M′ R
     t-again : (M′ : List (List Frame)) (i′ j′ : ℕ) (l : List (ℕ × Claim)) (rest : List Slot) → ¬ (IsFrame i j i′ j′) → frameAt M i′ j′ .slots ≡ []
-      → frameAt M′ i j ≡ record { function = frameAt M i j .function; index = 0; slots = givenVals (vals M i j) l rest } → S (frameAt M i j .function) 0 ≡ paramScope l
-      → ((a b : ℕ) → ¬ (IsFrame a b i j) → frameAt M′ a b ≡ frameAt M a b) → AllGiven (scope M i j) l → Typed M R i j M′ R
+        → frameAt M′ i j ≡ record { function = frameAt M i j .function; index = 0; slots = givenVals (vals M i j) l rest } → S (frameAt M i j .function) 0 ≡ paramScope l
+        → ((a b : ℕ) → ¬ (IsFrame a b i j) → frameAt M′ a b ≡ frameAt M a b) → AllGiven (scope M i j) l → Typed M R i j M′ R
 
   -- thread 0 at record 0 of function 0, which has no parameters
   abbrev pub started : List (List Frame)
   started = (record { function = 0; index = 0; slots = replicate 16 Empty } ∷ []) ∷ []
-
-  pub data Runs : List (List Frame) → Mem → Type 0 where
-    start : S 0 0 ≡ [] → Runs started void
-    step : {M M′ : List (List Frame)} {R R′ : Mem} → Runs M R → (i j : ℕ) → Active M i j → Typed M R i j M′ R′ → Runs M′ R′
-
--- in every state of every run of records that the rules allow, ownership is kept
-abbrev pub Safety : Type 0
-Safety = (St : Structs) (S : Scopes) (M : List (List Frame)) (R : Mem) → Runs St S M R → Kept St (flat S M) R

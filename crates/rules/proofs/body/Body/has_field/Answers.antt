@@ -1,0 +1,9 @@
+use mathlib.Core.Path.{ap}
+use Prim.Native.Nat.{ℕ}
+use lib.Dec.{ltb}
+use Rattle.rules.specs.Seen.{seen}
+use Rattle.rules.proofs.body.Body.has_field.Needs as need
+
+pub returns : need.returns
+unfolding seen
+returns c = ap (λ (m : ℕ). ltb (c .args .f) m) (c .fields .ensures .value)
