@@ -1,3 +1,11 @@
 // A machine that runs a table: threads of frames over a memory of objects.
+ghost use Rattle.machine.specs.Clashes.{Clash-law};
 pub mod clashing;
 pub mod threads;
+
+// Clash answers the first pair of threads that touch one var field of one object, and none exactly when there is none.
+pub fn clash_names_the_first_pair() -> u8
+    ensures { λ _. ⌜ Clash-law ⌝ }
+{
+    0
+}
