@@ -38,18 +38,18 @@ not-some x e = let z : _≡_ {A = ℕ} 0 1 = cc in absurd (omega arith)
 meets-none : (k l : ℕ) (t : ℕ × ℕ) (w : Option (ℕ × ℕ)) (rest : Option Clash) → meets k l t w rest ≡ None → (rest ≡ None) × (w ≡ Some t → ⊥)
 meets-none k l t None rest h = (h, λ e. not-some t e)
 meets-none k l t (Some u) rest h = elim (cases-bool (same t u)) [
-      inl q ↦ not-some (pair k l t) (sym h ∙ cond-true (same t u) (Some (pair k l t)) rest q)
-    | inr q ↦ (sym (cond-false (same t u) (Some (pair k l t)) rest q) ∙ h, λ e. let d : u ≡ t = cc in not-both (same t u) (true-same t u d) q)
-  ]
+  | inl q ↦ not-some (pair k l t) (sym h ∙ cond-true (same t u) (Some (pair k l t)) rest q)
+  | inr q ↦ (sym (cond-false (same t u) (Some (pair k l t)) rest q) ∙ h, λ e. let d : u ≡ t = cc in not-both (same t u) (true-same t u d) q)
+]
 
 meets-some : (k l : ℕ) (t : ℕ × ℕ) (w : Option (ℕ × ℕ)) (rest : Option Clash) (c : Clash) → meets k l t w rest ≡ Some c
     → ((w ≡ Some t) × (pair k l t ≡ c)) ⊎ ((rest ≡ Some c) × (w ≡ Some t → ⊥))
 meets-some k l t None rest c h = inr (h, λ e. not-some t e)
 meets-some k l t (Some u) rest c h = elim (cases-bool (same t u)) [
-      inl q ↦ (let e : Some (pair k l t) ≡ Some c = sym (cond-true (same t u) (Some (pair k l t)) rest q) ∙ h in
-        let d : pair k l t ≡ c = cc in inl (ap (λ (x : ℕ × ℕ). Some x) (same-true t u q), d))
-    | inr q ↦ inr (sym (cond-false (same t u) (Some (pair k l t)) rest q) ∙ h, λ e. let d : u ≡ t = cc in not-both (same t u) (true-same t u d) q)
-  ]
+  | inl q ↦ (let e : Some (pair k l t) ≡ Some c = sym (cond-true (same t u) (Some (pair k l t)) rest q) ∙ h in
+      let d : pair k l t ≡ c = cc in inl (ap (λ (x : ℕ × ℕ). Some x) (same-true t u q), d))
+  | inr q ↦ inr (sym (cond-false (same t u) (Some (pair k l t)) rest q) ∙ h, λ e. let d : u ≡ t = cc in not-both (same t u) (true-same t u d) q)
+]
 
 or-none : (a b : Option Clash) → or-else a b ≡ None → (a ≡ None) × (b ≡ None)
 or-none None b h = (refl, h)
@@ -78,10 +78,10 @@ module _ (p : Program) (m : Store) where
   partner-some : (k l : ℕ) (t : ℕ × ℕ) (us : List Task) (c : Clash) → partner p m k (Some t) l us ≡ Some c → Found k l t us c
   partner-some k l t [] c h = not-some c h
   partner-some k l t (u ∷ us) c h = elim (meets-some k l t (touch p m u) (partner p m k (Some t) (suc l) us) c h) [
-        inl q ↦ record { place = 0; is = ap (λ (n : ℕ). pair k n t) (omega arith) ∙ q .1; there = q .0; least = λ b _. omega arith }
-      | inr q ↦ (let r = partner-some k (suc l) t us c (q .0) in
-          record { place = suc (r .place); is = ap (λ (n : ℕ). pair k n t) (omega arith) ∙ r .is; there = r .there; least = later r (q .1) })
-    ]
+    | inl q ↦ record { place = 0; is = ap (λ (n : ℕ). pair k n t) (omega arith) ∙ q .1; there = q .0; least = λ b _. omega arith }
+    | inr q ↦ (let r = partner-some k (suc l) t us c (q .0) in
+        record { place = suc (r .place); is = ap (λ (n : ℕ). pair k n t) (omega arith) ∙ r .is; there = r .there; least = later r (q .1) })
+  ]
     where
       later : (r : Found k (suc l) t us c) → (touch p m u ≡ Some t → ⊥) → (b : ℕ) → At (u ∷ us) b t → suc (r .place) ≤ b
       later r n zero e = absurd (n e)
@@ -125,28 +125,35 @@ module _ (p : Program) (m : Store) where
   first-from : (k : ℕ) (ts : List Task) (c : Clash) → clash-from p m k ts ≡ Some c → First k ts c
   first-from k [] c h = not-some c h
   first-from k (u ∷ us) c h = elim (or-some (partner p m k (touch p m u) (suc k) us) (clash-from p m (suc k) us) c h) [
-        inl q ↦ first-here k u us c (touch p m u) refl q
-      | inr q ↦ (let r = first-from (suc k) us c (q .1) in
-          record {
-            low = suc (r .low); high = suc (r .high); touched = r .touched; is = ap₂ (λ (x y : ℕ). pair x y (r .touched)) (omega arith) (omega arith) ∙ r .is;
-            ordered = let o = r .ordered in omega arith; by-low = r .by-low; by-high = r .by-high; first = first r (q .0) })
-    ]
+    | inl q ↦ first-here k u us c (touch p m u) refl q
+    | inr q ↦ (let r = first-from (suc k) us c (q .1) in
+        record {
+          low = suc (r .low);
+          high = suc (r .high);
+          touched = r .touched;
+          is = ap₂ (λ (x y : ℕ). pair x y (r .touched)) (omega arith) (omega arith) ∙ r .is;
+          ordered = let o = r .ordered in omega arith;
+          by-low = r .by-low;
+          by-high = r .by-high;
+          first = first r (q .0);
+        })
+  ]
     where
       first : (r : First (suc k) us c) → partner p m k (touch p m u) (suc k) us ≡ None → (a b : ℕ) (t : ℕ × ℕ) → a < b → At (u ∷ us) a t → At (u ∷ us) b t
-        → (suc (r .low) < a) ⊎ ((suc (r .low) ≡ a) × (suc (r .high) ≤ b))
+          → (suc (r .low) < a) ⊎ ((suc (r .low) ≡ a) × (suc (r .high) ≤ b))
       first r n zero zero t l f g = absurd (omega arith)
       first r n zero (suc b) t l f g = absurd (partner-none k (suc k) t us (subst (λ (w : Option (ℕ × ℕ)). partner p m k w (suc k) us ≡ None) f n) b g)
       first r n (suc a) zero t l f g = absurd (omega arith)
       first r n (suc a) (suc b) t l f g = elim (r .first a b t (omega arith) f g) [
-          inl x ↦ inl (omega arith)
+        | inl x ↦ inl (omega arith)
         | inr x ↦ (let y = x .0 in let z = x .1 in inr (omega arith, omega arith))
-        ]
+      ]
 
 pub clash-law : Clash-law
 clash-law p W = (
   none-from p (W .memory) 0 (W .tasks),
   λ c h.
-    let r = first-from p (W .memory) 0 (W .tasks) c h in
-    let z : pair (r .low) (r .high) (r .touched) ≡ c = ap₂ (λ (x y : ℕ). pair x y (r .touched)) (omega arith) (omega arith) ∙ r .is in
-    subst (First-clash p W) z (record { ordered = r .ordered; by-lower = r .by-low; by-higher = r .by-high; first = r .first }),
+      let r = first-from p (W .memory) 0 (W .tasks) c h in
+      let z : pair (r .low) (r .high) (r .touched) ≡ c = ap₂ (λ (x y : ℕ). pair x y (r .touched)) (omega arith) (omega arith) ∙ r .is in
+      subst (First-clash p W) z (record { ordered = r .ordered; by-lower = r .by-low; by-higher = r .by-high; first = r .first }),
 )

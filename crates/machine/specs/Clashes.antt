@@ -60,4 +60,4 @@ pub record First-clash (p : Program) (W : World) (c : Clash) : Type 0 where
 abbrev pub Clash-law : Type 0
 Clash-law = (p : Program) (W : World)
     → (clashes p W ≡ None → (k l : ℕ) (t : ℕ × ℕ) → k < l → Touches p W k t → Touches p W l t → ⊥)
-      × ((c : Clash) → clashes p W ≡ Some c → First-clash p W c)
+    × ((c : Clash) → clashes p W ≡ Some c → First-clash p W c)

@@ -1,5 +1,6 @@
 // A machine that runs a table: threads of frames over a memory of objects.
 ghost use Rattle.machine.specs.Clashes.{Clash-law};
+
 pub mod clashing;
 pub mod threads;
 
