@@ -1,7 +1,9 @@
 -- The first pair of running threads that touch one var field of one object.
+use mathlib.Core.Path.{_≡_}
 use mathlib.Core.Bool.{Bool, true, false, cond, _&&_}
 use mathlib.Core.List.{List, [], _∷_}
-use Prim.Native.Nat.{ℕ, suc}
+use mathlib.Core.Logic.{_⊎_}
+use Prim.Native.Nat.{ℕ, suc, _<_, _≤_}
 use lib.Dec.{eqb}
 use Rattle.std.specs.declared.option.Option.{Option}
 use Rattle.std.specs.declared.option.Option.the-variants.{Some, None}
@@ -10,7 +12,7 @@ use Rattle.table.specs.Program.{Program}
 use Rattle.memory.specs.Model.{Store}
 use Rattle.machine.specs.declared.threads.Frame.{Frame}
 use Rattle.machine.specs.declared.clashing.Clash.{Clash}
-use Rattle.machine.specs.World.{Task, World, is-running}
+use Rattle.machine.specs.World.{Task, World, task, is-running}
 use Rattle.machine.specs.Ways.{Way, standing, way}
 
 -- the var field of an object that a thread's next record gets, takes or sets
@@ -42,3 +44,20 @@ clash-from p m k (t ∷ ts) = or-else (partner p m k (touch p m t) (suc k) ts) (
 
 abbrev pub clashes : Program → World → Option Clash
 clashes p W = clash-from p (W .memory) 0 (W .tasks)
+
+-- thread i touches this field of this object
+abbrev pub Touches : Program → World → ℕ → ℕ × ℕ → Type 0
+Touches p W i t = touch p (W .memory) (task W i) ≡ Some t
+
+-- two threads that touch one field, of all such pairs the first by the lower thread and then by the higher
+pub record First-clash (p : Program) (W : World) (c : Clash) : Type 0 where
+  pub ordered : c .lower < c .higher
+  pub by-lower : Touches p W (c .lower) (c .object, c .field)
+  pub by-higher : Touches p W (c .higher) (c .object, c .field)
+  pub first : (k l : ℕ) (t : ℕ × ℕ) → k < l → Touches p W k t → Touches p W l t → (c .lower < k) ⊎ ((c .lower ≡ k) × (c .higher ≤ l))
+
+-- clash answers that there is none exactly when there is none, and else the first
+abbrev pub Clash-law : Type 0
+Clash-law = (p : Program) (W : World)
+    → (clashes p W ≡ None → (k l : ℕ) (t : ℕ × ℕ) → k < l → Touches p W k t → Touches p W l t → ⊥)
+    × ((c : Clash) → clashes p W ≡ Some c → First-clash p W c)

@@ -103,21 +103,21 @@ module _ (X : Poised) where
   few-enough n args k e h = let a = ck X .brief n in omega arith
 
   -- the caller, as it is left
-  module _ (n : ℕ) (args : List ℕ) (line : ℕ) where
+  module _ (n : ℕ) (args : List ℕ) (index : ℕ) where
     abbrev caller : Frame
-    caller = record { function = F .function; index = line; slots = leaving (F .slots) args (callee p n .params) }
+    caller = record { function = F .function; index = index; slots = leaving (F .slots) args (callee p n .params) }
 
     abbrev callers : List Frame
-    callers = set (getD Ms i []) J (record { function = F .function; index = line; slots = leaving (F .slots) args (callee p n .params) })
+    callers = set (getD Ms i []) J (record { function = F .function; index = index; slots = leaving (F .slots) args (callee p n .params) })
 
     callers-length : length callers ≡ suc J
     callers-length = let a = length-set (getD Ms i []) J caller in omega arith
 
-    callers-chain : line < length (callee p (F .function) .records) → Chain p callers
+    callers-chain : index < length (callee p (F .function) .records) → Chain p callers
     callers-chain l = chain-moved p (getD Ms i []) J caller (base X .chains i) (omega arith) refl (record { there = placed X .there; index = l; slots = leaving-length (F .slots) args (callee p n .params) ∙ placed X .slots })
 
-    caller-at : getD callers J no-frame ≡ record { function = F .function; index = line; slots = Rattle.safety.specs.Calls.spendVals (F .slots) (pairs args (callee p n .params)) }
-    caller-at = getD-set-same (getD Ms i []) J caller no-frame (omega arith) ∙ ap (λ (v : List Slot). record { function = F .function; index = line; slots = v }) (leaving-is (F .slots) args (callee p n .params))
+    caller-at : getD callers J no-frame ≡ record { function = F .function; index = index; slots = Rattle.safety.specs.Calls.spendVals (F .slots) (pairs args (callee p n .params)) }
+    caller-at = getD-set-same (getD Ms i []) J caller no-frame (omega arith) ∙ ap (λ (v : List Slot). record { function = F .function; index = index; slots = v }) (leaving-is (F .slots) args (callee p n .params))
 
   pub past : frameAt Ms i (suc J) .slots ≡ []
   past = ap (λ (G : Frame). G .slots) (getD-past (getD Ms i []) (suc J) no-frame (omega arith))

@@ -136,12 +136,12 @@ module _ (St : Structs) (S : Scopes) (M M′ : List (List Frame)) (R : Mem) wher
   gone-frame N a b k e = ap (λ (v : List Slot). entryAt v (S (frameAt N a b .function) (frameAt N a b .index)) k) e
 
   -- a call, with (i′, j′) the next frame of the thread, or a fork, with the first frame of a new one
-  pub call-threads : (i j i′ j′ n line′ : ℕ) (l : List (ℕ × Claim)) (rest : List Slot) → ¬ (IsFrame i j i′ j′) → frameAt M i′ j′ .slots ≡ []
-      → frameAt M′ i j ≡ record { function = frameAt M i j .function; index = line′; slots = spendVals (frameAt M i j .slots) l } → FallsSc (S (frameAt M i j .function) (frameAt M i j .index)) (S (frameAt M i j .function) line′)
+  pub call-threads : (i j i′ j′ n index′ : ℕ) (l : List (ℕ × Claim)) (rest : List Slot) → ¬ (IsFrame i j i′ j′) → frameAt M i′ j′ .slots ≡ []
+      → frameAt M′ i j ≡ record { function = frameAt M i j .function; index = index′; slots = spendVals (frameAt M i j .slots) l } → FallsSc (S (frameAt M i j .function) (frameAt M i j .index)) (S (frameAt M i j .function) index′)
       → frameAt M′ i′ j′ ≡ record { function = n; index = 0; slots = givenVals (frameAt M i j .slots) l rest } → S n 0 ≡ paramScope l
       → ((a b : ℕ) → ¬ (IsFrame a b i j) → ¬ (IsFrame a b i′ j′) → frameAt M′ a b ≡ frameAt M a b)
       → AllReady (flat S M) (argsTo i j i′ j′ 0 l) → Sound St (flat S M) R → Sound St (flat S M′) R
-  call-threads i j i′ j′ n line′ l rest apart clear here′ falls there params others ready (H, inv, e) =
+  call-threads i j i′ j′ n index′ l rest apart clear here′ falls there params others ready (H, inv, e) =
       sound-falls St σ₁ (flat S M′) R falls′ (H, pass-all St (flat S M) H (argsTo i j i′ j′ 0 l) inv ready, e)
     where
       vs : List Slot
@@ -158,8 +158,8 @@ module _ (St : Structs) (S : Scopes) (M M′ : List (List Frame)) (R : Mem) wher
         where
           src : Falls (σ₁ (spot i j k)) (flat S M′ (spot i j k))
           src = subst (λ (y : Entry). Falls y (flat S M′ (spot i j k))) (sym (pass-source i j i′ j′ apart (flat S M) vs sc 0 l (λ x. refl) ready k))
-              (subst (λ (y : Entry). Falls (entryAt (spendVals vs l) sc k) y) (sym (at-frame i j k (record { function = frameAt M i j .function; index = line′; slots = spendVals vs l }) here′))
-              (entry-falls (spendVals vs l) sc (S (frameAt M i j .function) line′) falls k))
+              (subst (λ (y : Entry). Falls (entryAt (spendVals vs l) sc k) y) (sym (at-frame i j k (record { function = frameAt M i j .function; index = index′; slots = spendVals vs l }) here′))
+              (entry-falls (spendVals vs l) sc (S (frameAt M i j .function) index′) falls k))
 
           tgt : Falls (σ₁ (spot i′ j′ k)) (flat S M′ (spot i′ j′ k))
           tgt = stays (ap (λ (m : ℕ). σ₁ (spot i′ j′ m)) (sym (zero-add k))
@@ -173,14 +173,14 @@ module _ (St : Structs) (S : Scopes) (M M′ : List (List Frame)) (R : Mem) wher
           go (no m) (no o) = stays (pass-off i j i′ j′ apart (flat S M) 0 l (spot a b k) (λ x q. m (slot-frame q .0)) (λ x h q. o (slot-frame q .0)) ∙ sym (at-frame a b k (frameAt M a b) (others a b m o)))
 
   -- a return from (i′, j′) to (i, j), which waits at a call and binds the result
-  pub return-threads : (i j i′ j′ x line′ : ℕ) (t : Claim) → ¬ (IsFrame i j i′ j′)
+  pub return-threads : (i j i′ j′ x index′ : ℕ) (t : Claim) → ¬ (IsFrame i j i′ j′)
       → length (S (frameAt M i j .function) (frameAt M i j .index)) < length (frameAt M i j .slots)
-      → frameAt M′ i j ≡ record { function = frameAt M i j .function; index = line′; slots = set (frameAt M i j .slots) (length (S (frameAt M i j .function) (frameAt M i j .index))) (getD (frameAt M i′ j′ .slots) x Empty) }
-      → FallsSc (S (frameAt M i j .function) (frameAt M i j .index) ++ ((t ∷ []) ∷ [])) (S (frameAt M i j .function) line′)
+      → frameAt M′ i j ≡ record { function = frameAt M i j .function; index = index′; slots = set (frameAt M i j .slots) (length (S (frameAt M i j .function) (frameAt M i j .index))) (getD (frameAt M i′ j′ .slots) x Empty) }
+      → FallsSc (S (frameAt M i j .function) (frameAt M i j .index) ++ ((t ∷ []) ∷ [])) (S (frameAt M i j .function) index′)
       → frameAt M′ i′ j′ .slots ≡ []
       → ((a b : ℕ) → ¬ (IsFrame a b i j) → ¬ (IsFrame a b i′ j′) → frameAt M′ a b ≡ frameAt M a b)
       → Ready (flat S M) (record { source = spot i′ j′ x; target = spot i j (length (S (frameAt M i j .function) (frameAt M i j .index))); type = t }) → Sound St (flat S M) R → Sound St (flat S M′) R
-  return-threads i j i′ j′ x line′ t apart room here′ falls ended others ready (H, inv, e) =
+  return-threads i j i′ j′ x index′ t apart room here′ falls ended others ready (H, inv, e) =
       sound-falls St σ₁ (flat S M′) R falls′ (H, pass St (flat S M) H A inv ready, e)
     where
       vs : List Slot
@@ -215,8 +215,8 @@ module _ (St : Structs) (S : Scopes) (M M′ : List (List Frame)) (R : Mem) wher
         where
           bound : (y : Entry) → entryAt (set vs z v) (sc ++ ((t ∷ []) ∷ [])) k ≡ y → Falls y (flat S M′ (spot i j k))
           bound y q = subst (λ (y : Entry). Falls y (flat S M′ (spot i j k))) q
-              (subst (λ (w : Entry). Falls (entryAt (set vs z v) (sc ++ ((t ∷ []) ∷ [])) k) w) (sym (at-frame i j k (record { function = frameAt M i j .function; index = line′; slots = set vs z v }) here′))
-              (entry-falls (set vs z v) (sc ++ ((t ∷ []) ∷ [])) (S (frameAt M i j .function) line′) falls k))
+              (subst (λ (w : Entry). Falls (entryAt (set vs z v) (sc ++ ((t ∷ []) ∷ [])) k) w) (sym (at-frame i j k (record { function = frameAt M i j .function; index = index′; slots = set vs z v }) here′))
+              (entry-falls (set vs z v) (sc ++ ((t ∷ []) ∷ [])) (S (frameAt M i j .function) index′) falls k))
 
           src : Dec (k ≡ z) → Falls (σ₁ (spot i j k)) (flat S M′ (spot i j k))
           src (yes q) = bound (σ₁ (spot i j k)) (ap (λ (m : ℕ). entryAt (set vs z v) (sc ++ ((t ∷ []) ∷ [])) m) q ∙ entry-bind vs sc v t room ∙ sym got ∙ sym (put-at (put (flat S M) (spot i′ j′ x) e₁) (spot i j z) e₂) ∙ ap (λ (m : ℕ). σ₁ (spot i j m)) (sym q))

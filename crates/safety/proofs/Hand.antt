@@ -164,8 +164,6 @@ module _ (St : Structs) where
   do-set σ H z x y p f k s w w′ v t xs ys inv n nz ex ey wt fl wo =
       let cx = at-slot St σ H x (here (Reference p) (pt k s w) xs) inv ex in
       let um : H .mem p f .mark ≡ false = writable-unmarked σ H p f w k inv wt (cx .0 .part) in
-      let H₁ : Heap = wr H p f (stored v false) in
-      let σ₁ : Slots = put σ y (here (spent (fieldAt St H p f) v) t ys) in
       let i : Inv St (put σ y (here (spent (fieldAt St H p f) v) t ys)) (wr H p f (stored v false)) = store St σ H y p f false v t ys inv ey fl (λ e. absurd (not-both e um)) (λ e. absurd (not-both e refl)) (λ e. absurd (writable-once k (modeAt St H p f) wt e)) (λ e. absurd (not-both e refl)) in
       let ex′ : put σ y (here (spent (fieldAt St H p f) v) t ys) x ≡ here (Reference p) (pt k s w) xs = put-off σ y (here (spent (fieldAt St H p f) v) t ys) x n ∙ ex in
       let c₁ = at-slot St (put σ y (here (spent (fieldAt St H p f) v) t ys)) (wr H p f (stored v false)) x (here (Reference p) (pt k s w) xs) i ex′ in
@@ -184,7 +182,6 @@ module _ (St : Structs) where
       let cx = at-slot St σ H x (here (Reference p) (pt pristine s w) xs) inv ex in
       let c₁ : Conf St H (Reference p) (pt pristine s w′) = record { low = cx .0 .low; struct = cx .0 .struct; part = (cx .0 .part .0, λ g d. wi .kept g (cx .0 .part .1 g d)) } in
       let i : Inv St (put (put σ x (here Null (pt pristine s w) xs)) z (here (Reference p) (pt pristine s w′) [])) H = move St σ H x z (Reference p) (pt pristine s w) (pt pristine s w′) xs inv nz ex c₁ (omega arith) (omega arith) in
-      let σ₁ : Slots = put (put σ x (here Null (pt pristine s w) xs)) z (here (Reference p) (pt pristine s w′) []) in
       let ey′ : put (put σ x (here Null (pt pristine s w) xs)) z (here (Reference p) (pt pristine s w′) []) y ≡ here v (pt alias s′ u) ys =
       put-off (put σ x (here Null (pt pristine s w) xs)) z (here (Reference p) (pt pristine s w′) []) y (λ e. ny (sym e)) ∙ put-off σ x (here Null (pt pristine s w) xs) y (λ e. n (sym e)) ∙ ey in
       let ez : put (put σ x (here Null (pt pristine s w) xs)) z (here (Reference p) (pt pristine s w′) []) z ≡ here (Reference p) (pt pristine s w′) [] = put-at (put σ x (here Null (pt pristine s w) xs)) z (here (Reference p) (pt pristine s w′) []) in (

@@ -89,15 +89,15 @@ module _ (St : Structs) (S : Scopes) (M : List (List Frame)) (R : Mem) (i j : �
       (λ l e. (λ q. m (e ∙ ap (λ (y : ℕ). spot i j y) q), λ q. n (e ∙ ap (λ (y : ℕ). spot i j y) q), λ q. o (e ∙ ap (λ (y : ℕ). spot i j y) q)))) s n o) s o)) s
 
 -- an example: the yes of swap, on threads of frames. The scope of the next record is that of this one, with T_f pushed on y, or falls from it
-pub swap-threads : (St : Structs) (S : Scopes) (M : List (List Frame)) (R : Mem) (i j x y w p f : ℕ) (k : Right) (s u s′ u′ : ℕ) (v v′ : Slot) (t : Claim) (xs ys ws : List Claim) (line′ : ℕ)
+pub swap-threads : (St : Structs) (S : Scopes) (M : List (List Frame)) (R : Mem) (i j x y w p f : ℕ) (k : Right) (s u s′ u′ : ℕ) (v v′ : Slot) (t : Claim) (xs ys ws : List Claim) (index′ : ℕ)
     → i < length M → j < length (getD M i []) → ¬ (w ≡ y) → Plain k
     → flat S M (spot i j x) ≡ here (Reference p) (pt k s u) xs → flat S M (spot i j y) ≡ here v (pt alias s′ u′) ys → flat S M (spot i j w) ≡ here v′ t ws
     → modeOf St R p f ≡ Spec → RefTo (fieldOf St R p f) s′ → Flows t (tyOf (fieldOf St R p f)) → R .mark p f ≡ false → R .word p f ≡ word-of v
-    → FallsSc (set (S (frameAt M i j .function) (frameAt M i j .index)) y (tyOf (fieldOf St R p f) ∷ getD (S (frameAt M i j .function) (frameAt M i j .index)) y [])) (S (frameAt M i j .function) line′)
+    → FallsSc (set (S (frameAt M i j .function) (frameAt M i j .index)) y (tyOf (fieldOf St R p f) ∷ getD (S (frameAt M i j .function) (frameAt M i j .index)) y [])) (S (frameAt M i j .function) index′)
     → (spare : Spot) → flat S M spare ≡ out
     → Sound St (flat S M) R
-    → Sound St (flat S (putFrame M i j (record { function = frameAt M i j .function; index = line′; slots = set (frameAt M i j .slots) w (spent (fieldOf St R p f) v′) }))) (poke R p f (word-of v′) false)
-swap-threads St S M R i j x y w p f k s u s′ u′ v v′ t xs ys ws line′ hi hj n h ex ey ew md rt fl m wd next spare es sound =
+    → Sound St (flat S (putFrame M i j (record { function = frameAt M i j .function; index = index′; slots = set (frameAt M i j .slots) w (spent (fieldOf St R p f) v′) }))) (poke R p f (word-of v′) false)
+swap-threads St S M R i j x y w p f k s u s′ u′ v v′ t xs ys ws index′ hi hj n h ex ey ew md rt fl m wd next spare es sound =
     lift₂ St S M (poke R p f (word-of v′) false) i j F hi hj y w a b fa fb others
     (keeps St (flat S M) (put (put (flat S M) (spot i j y) a) (spot i j w) b) R (poke R p f (word-of v′) false) spare es
     (do-swap (spot i j x) (spot i j y) (spot i j w) p f k s u s′ u′ v v′ t xs ys ws (λ e. n (cc)) h ex ey ew md rt fl m wd) sound)
@@ -112,7 +112,7 @@ swap-threads St S M R i j x y w p f k s u s′ u′ v v′ t xs ys ws line′ hi
     T = fieldOf St R p f
 
     F : Frame
-    F = record { function = frameAt M i j .function; index = line′; slots = set vs w (spent T v′) }
+    F = record { function = frameAt M i j .function; index = index′; slots = set vs w (spent T v′) }
 
     a : Entry
     a = here v (tyOf T) (pt alias s′ u′ ∷ ys)
@@ -123,14 +123,14 @@ swap-threads St S M R i j x y w p f k s u s′ u′ v v′ t xs ys ws line′ hi
     res : List (List Claim)
     res = set sc y (tyOf T ∷ getD sc y [])
 
-    at-res : (k : ℕ) (e : Entry) → entryAt (set vs w (spent T v′)) res k ≡ e → Falls e (entryAt (set vs w (spent T v′)) (S (frameAt M i j .function) line′) k)
-    at-res k e q = subst (λ (z : Entry). Falls z (entryAt (set vs w (spent T v′)) (S (frameAt M i j .function) line′) k)) q (entry-falls (set vs w (spent T v′)) res (S (frameAt M i j .function) line′) next k)
+    at-res : (k : ℕ) (e : Entry) → entryAt (set vs w (spent T v′)) res k ≡ e → Falls e (entryAt (set vs w (spent T v′)) (S (frameAt M i j .function) index′) k)
+    at-res k e q = subst (λ (z : Entry). Falls z (entryAt (set vs w (spent T v′)) (S (frameAt M i j .function) index′) k)) q (entry-falls (set vs w (spent T v′)) res (S (frameAt M i j .function) index′) next k)
 
-    fa : Falls a (entryAt (set vs w (spent T v′)) (S (frameAt M i j .function) line′) y)
+    fa : Falls a (entryAt (set vs w (spent T v′)) (S (frameAt M i j .function) index′) y)
     fa = at-res y a (entry-val-off vs res w (spent T v′) y (λ e. n (sym e)) ∙ entry-push vs sc y v (pt alias s′ u′) (tyOf T) ys ey)
 
-    fb : Falls b (entryAt (set vs w (spent T v′)) (S (frameAt M i j .function) line′) w)
+    fb : Falls b (entryAt (set vs w (spent T v′)) (S (frameAt M i j .function) index′) w)
     fb = at-res w b (entry-val vs res w v′ (spent T v′) t ws (entry-push-off vs sc y (tyOf T ∷ getD sc y []) w n ∙ ew))
 
-    others : (k : ℕ) → ¬ (k ≡ y) → ¬ (k ≡ w) → Falls (entryAt vs sc k) (entryAt (set vs w (spent T v′)) (S (frameAt M i j .function) line′) k)
+    others : (k : ℕ) → ¬ (k ≡ y) → ¬ (k ≡ w) → Falls (entryAt vs sc k) (entryAt (set vs w (spent T v′)) (S (frameAt M i j .function) index′) k)
     others k ny nw = at-res k (entryAt vs sc k) (entry-val-off vs res w (spent T v′) k nw ∙ entry-push-off vs sc y (tyOf T ∷ getD sc y []) k ny)

@@ -146,11 +146,11 @@ module _ (X : Poised) where
   halting = (subst (λ (N : List (List Frame)). Base p A N m) (sym (set-getD Ms i [])) base, λ e. never e)
 
   -- the newest frame goes on
-  pub goes : (line : ℕ) (vs : List Slot) (n : Store) (R : Mem) (out : Option ℕ) → Typed (structs-of p) (scopes A) Ms (mem m) i J (advance Ms i J line vs) R
-      → mem n ≡ R → Whole n → line < length (callee p (F .function) .records) → length vs ≡ 16 → Good (Does (go p m fs line vs n) out)
-  goes line vs n R out t e w l k = (
+  pub goes : (index : ℕ) (vs : List Slot) (n : Store) (R : Mem) (out : Option ℕ) → Typed (structs-of p) (scopes A) Ms (mem m) i J (advance Ms i J index vs) R
+      → mem n ≡ R → Whole n → index < length (callee p (F .function) .records) → length vs ≡ 16 → Good (Does (go p m fs index vs n) out)
+  goes index vs n R out t e w l k = (
     record {
-      sound = subst (λ (Q : Mem). Sound (structs-of p) (flat (scopes A) (advance Ms i J line vs)) Q) (sym e) (typed-keeps (structs-of p) (scopes A) Ms (mem m) i J act (base .sound) (advance Ms i J line vs) R t);
+      sound = subst (λ (Q : Mem). Sound (structs-of p) (flat (scopes A) (advance Ms i J index vs)) Q) (sym e) (typed-keeps (structs-of p) (scopes A) Ms (mem m) i J act (base .sound) (advance Ms i J index vs) R t);
       chains = set-all (Chain p) Ms i (set fs J G) [] (chain-moved p fs J G (base .chains i) (omega arith) refl (record { there = placed .there; index = l; slots = k })) (base .chains);
       whole = w;
     },
@@ -158,7 +158,7 @@ module _ (X : Poised) where
   )
     where
       G : Frame
-      G = record { function = F .function; index = line; slots = vs }
+      G = record { function = F .function; index = index; slots = vs }
 
   pub is-free : (z : ℕ) → free p (callee p (F .function)) ts z ≡ true → (z ≡ fresh (structs-of p) (scopes A) Ms i J) × (z < 16)
   is-free z h =

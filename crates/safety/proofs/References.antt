@@ -1,38 +1,35 @@
 -- References on every run of an accepted table: what they name is there, and a pristine slot is the only name of its object.
 use mathlib.Core.Path.{_≡_, refl, sym, ap, ap₂, subst, _∙_}
-use mathlib.Core.Bool.{Bool, true, false}
+use mathlib.Core.Bool.{false}
 use mathlib.Core.List.{List, [], _∷_}
 use Prim.Native.Nat.{ℕ, zero, suc, _<_}
 use native.Mathlib.Omega.{arith}
 use lib.ListN.{length, getD}
-use Rattle.std.specs.declared.result.Result.the-variants.{Ok}
 use Rattle.table.specs.declared.types.Kind.{Kind}
 use Rattle.table.specs.declared.types.Kind.the-variants.{Number, Alias, Owned, Pristine}
 use Rattle.table.specs.declared.types.Ty.{Ty}
 use Rattle.table.specs.Types.{is-number}
 use Rattle.table.specs.Program.{Program}
-use Rattle.rules.specs.Rules.{slot, declared, callee}
-use Rattle.rules.specs.Scopes.{before, verdict}
+use Rattle.rules.specs.Rules.{slot, declared}
 use Rattle.rules.proofs.Formed.{program-stands}
-use Rattle.memory.specs.Model.{countOf, objectAt, cellAt}
+use Rattle.memory.specs.Model.{objectAt, cellAt}
 use Rattle.machine.specs.declared.threads.Slot.{Slot}
 use Rattle.machine.specs.declared.threads.Slot.the-variants as V
 use Rattle.machine.specs.declared.threads.Frame.{Frame}
-use Rattle.machine.specs.World.{World, task, no-frame}
+use Rattle.machine.specs.World.{World, no-frame}
 use Rattle.safety.specs.Model as C
-use Rattle.safety.specs.Step.{Sound}
-use Rattle.safety.specs.Threads.{entryAt, frameAt, flat}
-use Rattle.safety.specs.Kept.{Kept, Fits}
-use Rattle.safety.specs.Checked.{by-kind, core, field-by-kind, core-field, structs-of, Notes, current, stacks, types, scopes, Checked}
+use Rattle.safety.specs.Threads.{entryAt, flat}
+use Rattle.safety.specs.Kept.{Kept}
+use Rattle.safety.specs.Checked.{by-kind, core, field-by-kind, structs-of, current, stacks, scopes, Checked}
 use Rattle.safety.specs.Notes.{notes}
-use Rattle.safety.specs.Owners.{types-before}
 use Rattle.safety.specs.Runs.{runs}
-use Rattle.safety.specs.Words.{frame, scope, Refers, Points, Named, Names-stand}
+use Rattle.safety.specs.References.{frame, scope, Refers, Owns, Points, Named, Names-stand}
 use Rattle.safety.proofs.Keeps.{kept-sound}
 use Rattle.safety.proofs.Calls.{slot-frame}
 use Rattle.safety.proofs.Images.{mem}
 use Rattle.safety.proofs.Meaning.{never}
-use Rattle.safety.proofs.Ground.{saved-at, fits-struct, kind-pristine}
+use Rattle.safety.proofs.Ground.{saved-at, fits-struct}
+use Rattle.safety.proofs.Tells.{owned-by}
 use Rattle.safety.proofs.Counts.{frames-of}
 use Rattle.safety.proofs.Notes.{accepted-checked, notes-types}
 use Rattle.safety.proofs.Promise.{Well, frames-at}
@@ -82,6 +79,11 @@ module _ (p : Program) (ck : Checked p (notes p)) (W : World) (w : Well p (notes
   pristine-entry i j x o r e = entry i j x o r
       ∙ ap (λ (k : Kind). C.here (V.Reference o) (by-kind k (slot (scope p W i j) x .strukt) (slot (scope p W i j) x .withheld)) (saved-at (now i j) x)) e
 
+  owner : (i j x o : ℕ) → Owns p W i j x o → C.ownE (flat (scopes (notes p)) (frames-of (W .tasks)) (C.spot i j x)) ≡ suc o
+  owner i j x o r =
+      let t = slot (scope p W i j) x in
+      ap C.ownE (entry i j x o (r .refers)) ∙ owned-by (t .kind) (t .strukt) (t .withheld) (suc o) (r .owning)
+
   word-name : (q f o : ℕ) → Points p (W .memory) q f o
       → C.nameC (structs-of p .field (objectAt (W .memory) q .kind) f) (record { word = cellAt (W .memory) q f .word; mark = false; dead = false }) ≡ suc o
   word-name q f o r =
@@ -94,6 +96,9 @@ module _ (p : Program) (ck : Checked p (notes p)) (W : World) (w : Well p (notes
         let t = slot (scope p W i j) x in
         fits-struct (mem (W .memory)) o (t .kind) (t .strukt) (t .withheld) (held .fits (C.spot i j x) (V.Reference o) (core t) (saved-at (now i j) x) (entry i j x o r)) .0;
     cells = λ q f o r. held .named q f o (word-name q f o r);
+    one-owner = λ i j x i′ j′ x′ o r r′.
+        let s = slot-frame (held .no-clash (C.spot i j x) (C.spot i′ j′ x′) o (owner i j x o r) (owner i′ j′ x′ o r′)) in
+        (s .0 .0, s .0 .1, s .1);
     only-slot = λ i j x o r e i′ j′ x′ r′.
         let t = slot (scope p W i j) x in
         let s = slot-frame (held .only-name (C.spot i j x) (C.spot i′ j′ x′) o (t .strukt) (t .withheld) (saved-at (now i j) x) (pristine-entry i j x o r e) (ap C.nameE (entry i′ j′ x′ o r′))) in

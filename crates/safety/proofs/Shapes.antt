@@ -30,7 +30,7 @@ refers St σ R x p s w k ts (H, inv, e) ex =
     let c = at-slot St σ H x (here (Reference p) (pt k s w) ts) inv ex in
     subst (λ (Q : Mem). (p < Q .size) × (Q .kind p ≡ s)) e (c .0 .low, c .0 .struct)
 
-module _ (St : Structs) (S : Scopes) (M : List (List Frame)) (R : Mem) (i j line′ : ℕ) (hi : i < length M) (hj : j < length (getD M i [])) where
+module _ (St : Structs) (S : Scopes) (M : List (List Frame)) (R : Mem) (i j index′ : ℕ) (hi : i < length M) (hj : j < length (getD M i [])) where
   vs : List Slot
   vs = frameAt M i j .slots
 
@@ -38,22 +38,22 @@ module _ (St : Structs) (S : Scopes) (M : List (List Frame)) (R : Mem) (i j line
   sc = S (frameAt M i j .function) (frameAt M i j .index)
 
   -- the entries of a result's scope, on the way to the next record's
-  to-next : (vals : List Slot) (res : List (List Claim)) → FallsSc res (S (frameAt M i j .function) line′) → (k : ℕ) (e : Entry) → entryAt vals res k ≡ e → Falls e (entryAt vals (S (frameAt M i j .function) line′) k)
-  to-next vals res h k e q = subst (λ (y : Entry). Falls y (entryAt vals (S (frameAt M i j .function) line′) k)) q (entry-falls vals res (S (frameAt M i j .function) line′) h k)
+  to-next : (vals : List Slot) (res : List (List Claim)) → FallsSc res (S (frameAt M i j .function) index′) → (k : ℕ) (e : Entry) → entryAt vals res k ≡ e → Falls e (entryAt vals (S (frameAt M i j .function) index′) k)
+  to-next vals res h k e q = subst (λ (y : Entry). Falls y (entryAt vals (S (frameAt M i j .function) index′) k)) q (entry-falls vals res (S (frameAt M i j .function) index′) h k)
 
   frame : List Slot → Frame
-  frame vals = record { function = frameAt M i j .function; index = line′; slots = vals }
+  frame vals = record { function = frameAt M i j .function; index = index′; slots = vals }
 
   -- no slot changes: a test, emit, join
-  pub stay : (x : ℕ) → FallsSc (S (frameAt M i j .function) (frameAt M i j .index)) (S (frameAt M i j .function) line′) → Sound St (put (flat S M) (spot i j x) (flat S M (spot i j x))) R → Sound St (flat S (advance M i j line′ (frameAt M i j .slots))) R
+  pub stay : (x : ℕ) → FallsSc (S (frameAt M i j .function) (frameAt M i j .index)) (S (frameAt M i j .function) index′) → Sound St (put (flat S M) (spot i j x) (flat S M (spot i j x))) R → Sound St (flat S (advance M i j index′ (frameAt M i j .slots))) R
   unfolding vs sc frame
   stay x h s = lift₁ St S M R i j (frame vs) hi hj x (flat S M (spot i j x)) (to-next vs sc h x (flat S M (spot i j x)) refl) (λ k n. to-next vs sc h k (flat S M (spot i j k)) refl) s
 
   -- z is bound: int, null, new, share, get, take, add
   pub binds : (v : Slot) (t : Claim) → length (S (frameAt M i j .function) (frameAt M i j .index)) < length (frameAt M i j .slots)
-      → FallsSc (S (frameAt M i j .function) (frameAt M i j .index) ++ ((t ∷ []) ∷ [])) (S (frameAt M i j .function) line′)
+      → FallsSc (S (frameAt M i j .function) (frameAt M i j .index) ++ ((t ∷ []) ∷ [])) (S (frameAt M i j .function) index′)
       → Sound St (put (flat S M) (spot i j (length (S (frameAt M i j .function) (frameAt M i j .index)))) (here v t [])) R
-      → Sound St (flat S (advance M i j line′ (set (frameAt M i j .slots) (length (S (frameAt M i j .function) (frameAt M i j .index))) v))) R
+      → Sound St (flat S (advance M i j index′ (set (frameAt M i j .slots) (length (S (frameAt M i j .function) (frameAt M i j .index))) v))) R
   unfolding vs sc frame
   binds v t room h s = lift₁ St S M R i j (frame (set vs (length sc) v)) hi hj (length sc) (here v t [])
       (to-next (set vs (length sc) v) (sc ++ ((t ∷ []) ∷ [])) h (length sc) (here v t []) (entry-bind vs sc v t room))
@@ -62,9 +62,9 @@ module _ (St : Structs) (S : Scopes) (M : List (List Frame)) (R : Mem) (i j line
   -- x gives its value, and z is bound: own
   pub gives : (x : ℕ) (v v₀ v₁ : Slot) (t₀ t : Claim) (ts : List Claim) → length (S (frameAt M i j .function) (frameAt M i j .index)) < length (frameAt M i j .slots) → ¬ (x ≡ length (S (frameAt M i j .function) (frameAt M i j .index)))
       → flat S M (spot i j x) ≡ here v₀ t₀ ts
-      → FallsSc (S (frameAt M i j .function) (frameAt M i j .index) ++ ((t ∷ []) ∷ [])) (S (frameAt M i j .function) line′)
+      → FallsSc (S (frameAt M i j .function) (frameAt M i j .index) ++ ((t ∷ []) ∷ [])) (S (frameAt M i j .function) index′)
       → Sound St (put (put (flat S M) (spot i j x) (here v₁ t₀ ts)) (spot i j (length (S (frameAt M i j .function) (frameAt M i j .index)))) (here v t [])) R
-      → Sound St (flat S (advance M i j line′ (set (set (frameAt M i j .slots) x v₁) (length (S (frameAt M i j .function) (frameAt M i j .index))) v))) R
+      → Sound St (flat S (advance M i j index′ (set (set (frameAt M i j .slots) x v₁) (length (S (frameAt M i j .function) (frameAt M i j .index))) v))) R
   unfolding vs sc frame
   gives x v v₀ v₁ t₀ t ts room n ex h s =
       let ws : List Slot = set vs x v₁ in
@@ -78,9 +78,9 @@ module _ (St : Structs) (S : Scopes) (M : List (List Frame)) (R : Mem) (i j line
   pub sets : (y x : ℕ) (v v₀ v₁ u₀ u₁ : Slot) (t₀ t₁ t : Claim) (ys xs : List Claim) → length (S (frameAt M i j .function) (frameAt M i j .index)) < length (frameAt M i j .slots)
       → ¬ (y ≡ x) → ¬ (y ≡ length (S (frameAt M i j .function) (frameAt M i j .index))) → ¬ (x ≡ length (S (frameAt M i j .function) (frameAt M i j .index)))
       → flat S M (spot i j y) ≡ here v₀ t₀ ys → flat S M (spot i j x) ≡ here u₀ t₁ xs
-      → FallsSc (S (frameAt M i j .function) (frameAt M i j .index) ++ ((t ∷ []) ∷ [])) (S (frameAt M i j .function) line′)
+      → FallsSc (S (frameAt M i j .function) (frameAt M i j .index) ++ ((t ∷ []) ∷ [])) (S (frameAt M i j .function) index′)
       → Sound St (put (put (put (flat S M) (spot i j y) (here v₁ t₀ ys)) (spot i j x) (here u₁ t₁ xs)) (spot i j (length (S (frameAt M i j .function) (frameAt M i j .index)))) (here v t [])) R
-      → Sound St (flat S (advance M i j line′ (set (set (set (frameAt M i j .slots) y v₁) x u₁) (length (S (frameAt M i j .function) (frameAt M i j .index))) v))) R
+      → Sound St (flat S (advance M i j index′ (set (set (set (frameAt M i j .slots) y v₁) x u₁) (length (S (frameAt M i j .function) (frameAt M i j .index))) v))) R
   unfolding vs sc frame
   sets y x v v₀ v₁ u₀ u₁ t₀ t₁ t ys xs room nyx ny nx ey ex h s =
       let room′ : length sc < length (set (set vs y v₁) x u₁) = rw (length-set (set vs y v₁) x u₁, length-set vs y v₁) room in
@@ -92,8 +92,8 @@ module _ (St : Structs) (S : Scopes) (M : List (List Frame)) (R : Mem) (i j line
 
   -- a yes that gives y another type for its block: unlink, and x in fix and stable
   pub pushes : (y : ℕ) (v : Slot) (t₀ t : Claim) (ys : List Claim) → flat S M (spot i j y) ≡ here v t₀ ys
-      → FallsSc (set (S (frameAt M i j .function) (frameAt M i j .index)) y (t ∷ getD (S (frameAt M i j .function) (frameAt M i j .index)) y [])) (S (frameAt M i j .function) line′)
-      → Sound St (put (flat S M) (spot i j y) (here v t (t₀ ∷ ys))) R → Sound St (flat S (advance M i j line′ (frameAt M i j .slots))) R
+      → FallsSc (set (S (frameAt M i j .function) (frameAt M i j .index)) y (t ∷ getD (S (frameAt M i j .function) (frameAt M i j .index)) y [])) (S (frameAt M i j .function) index′)
+      → Sound St (put (flat S M) (spot i j y) (here v t (t₀ ∷ ys))) R → Sound St (flat S (advance M i j index′ (frameAt M i j .slots))) R
   unfolding vs sc frame
   pushes y v t₀ t ys ey h s = lift₁ St S M R i j (frame vs) hi hj y (here v t (t₀ ∷ ys))
       (to-next vs (set sc y (t ∷ getD sc y [])) h y (here v t (t₀ ∷ ys)) (entry-push vs sc y v t₀ t ys ey))
@@ -101,8 +101,8 @@ module _ (St : Structs) (S : Scopes) (M : List (List Frame)) (R : Mem) (i j line
 
   -- and one whose w gives its value: swap, and try (with x for y, and y for w)
   pub trades : (y w : ℕ) (v v₀ v₁ : Slot) (t₀ t t₁ : Claim) (ys ws : List Claim) → ¬ (w ≡ y) → flat S M (spot i j y) ≡ here v t₀ ys → flat S M (spot i j w) ≡ here v₀ t₁ ws
-      → FallsSc (set (S (frameAt M i j .function) (frameAt M i j .index)) y (t ∷ getD (S (frameAt M i j .function) (frameAt M i j .index)) y [])) (S (frameAt M i j .function) line′)
-      → Sound St (put (put (flat S M) (spot i j y) (here v t (t₀ ∷ ys))) (spot i j w) (here v₁ t₁ ws)) R → Sound St (flat S (advance M i j line′ (set (frameAt M i j .slots) w v₁))) R
+      → FallsSc (set (S (frameAt M i j .function) (frameAt M i j .index)) y (t ∷ getD (S (frameAt M i j .function) (frameAt M i j .index)) y [])) (S (frameAt M i j .function) index′)
+      → Sound St (put (put (flat S M) (spot i j y) (here v t (t₀ ∷ ys))) (spot i j w) (here v₁ t₁ ws)) R → Sound St (flat S (advance M i j index′ (set (frameAt M i j .slots) w v₁))) R
   unfolding vs sc frame
   trades y w v v₀ v₁ t₀ t t₁ ys ws n ey ew h s = lift₂ St S M R i j (frame (set vs w v₁)) hi hj y w (here v t (t₀ ∷ ys)) (here v₁ t₁ ws)
       (to-next (set vs w v₁) (set sc y (t ∷ getD sc y [])) h y (here v t (t₀ ∷ ys)) (entry-val-off vs (set sc y (t ∷ getD sc y [])) w v₁ y (λ e. n (sym e)) ∙ entry-push vs sc y v t₀ t ys ey))
@@ -111,8 +111,8 @@ module _ (St : Structs) (S : Scopes) (M : List (List Frame)) (R : Mem) (i j line
 
   -- a yes that only takes y's value: link
   pub spends : (y : ℕ) (v₀ v₁ : Slot) (t : Claim) (ys : List Claim) → flat S M (spot i j y) ≡ here v₀ t ys
-      → FallsSc (S (frameAt M i j .function) (frameAt M i j .index)) (S (frameAt M i j .function) line′)
-      → Sound St (put (flat S M) (spot i j y) (here v₁ t ys)) R → Sound St (flat S (advance M i j line′ (set (frameAt M i j .slots) y v₁))) R
+      → FallsSc (S (frameAt M i j .function) (frameAt M i j .index)) (S (frameAt M i j .function) index′)
+      → Sound St (put (flat S M) (spot i j y) (here v₁ t ys)) R → Sound St (flat S (advance M i j index′ (set (frameAt M i j .slots) y v₁))) R
   unfolding vs sc frame
   spends y v₀ v₁ t ys ey h s = lift₁ St S M R i j (frame (set vs y v₁)) hi hj y (here v₁ t ys)
       (to-next (set vs y v₁) sc h y (here v₁ t ys) (entry-val vs sc y v₀ v₁ t ys ey))

@@ -99,12 +99,12 @@ module _ (S : Scopes) (M : List (List Frame)) (i j : ℕ) (F : Frame) (hi : i < 
           (subst (λ (b : ℕ). flat S (putFrame M i j F) (spot i b k) ≡ flat S M (spot i b k)) (sym e′) (flat-same k ∙ h k p′))
 
 -- what a binding of a frame is in the flat configuration
-pub flat-bind : (S : Scopes) (M : List (List Frame)) (i j line′ : ℕ) (v : Slot) (t : Claim) → i < length M → j < length (getD M i [])
+pub flat-bind : (S : Scopes) (M : List (List Frame)) (i j index′ : ℕ) (v : Slot) (t : Claim) → i < length M → j < length (getD M i [])
     → length (S (frameAt M i j .function) (frameAt M i j .index)) < length (frameAt M i j .slots)
-    → S (frameAt M i j .function) line′ ≡ S (frameAt M i j .function) (frameAt M i j .index) ++ ((t ∷ []) ∷ [])
+    → S (frameAt M i j .function) index′ ≡ S (frameAt M i j .function) (frameAt M i j .index) ++ ((t ∷ []) ∷ [])
     → put (flat S M) (spot i j (length (S (frameAt M i j .function) (frameAt M i j .index)))) (here v t [])
-    ≡ flat S (putFrame M i j (record { function = frameAt M i j .function; index = line′; slots = set (frameAt M i j .slots) (length (S (frameAt M i j .function) (frameAt M i j .index))) v }))
-flat-bind S M i j line′ v t hi hj room next = put-of (flat S M) (flat S (putFrame M i j F)) (spot i j z) (here v t [])
+    ≡ flat S (putFrame M i j (record { function = frameAt M i j .function; index = index′; slots = set (frameAt M i j .slots) (length (S (frameAt M i j .function) (frameAt M i j .index))) v }))
+flat-bind S M i j index′ v t hi hj room next = put-of (flat S M) (flat S (putFrame M i j F)) (spot i j z) (here v t [])
     (flat-same S M i j F hi hj z ∙ ap (λ (q : List (List Claim)). entryAt (set vs z v) q z) next ∙ entry-bind vs sc v t room)
     (flat-off S M i j F hi hj (λ s. ¬ (s ≡ spot i j z)) (λ k n. ap (λ (q : List (List Claim)). entryAt (set vs z v) q k) next ∙ entry-bind-off vs sc v t k (λ e. n (ap (λ (a : ℕ). spot i j a) e))))
   where
@@ -118,16 +118,16 @@ flat-bind S M i j line′ v t hi hj room next = put-of (flat S M) (flat S (putFr
     z = length sc
 
     F : Frame
-    F = record { function = frameAt M i j .function; index = line′; slots = set vs z v }
+    F = record { function = frameAt M i j .function; index = index′; slots = set vs z v }
 
 -- an example: share, on threads of frames
-pub share-threads : (St : Structs) (S : Scopes) (M : List (List Frame)) (R : Mem) (i j line′ x : ℕ) (v : Slot) (t : Claim) (ts : List Claim) → i < length M → j < length (getD M i [])
+pub share-threads : (St : Structs) (S : Scopes) (M : List (List Frame)) (R : Mem) (i j index′ x : ℕ) (v : Slot) (t : Claim) (ts : List Claim) → i < length M → j < length (getD M i [])
     → length (S (frameAt M i j .function) (frameAt M i j .index)) < length (frameAt M i j .slots)
     → flat S M (spot i j x) ≡ here v t ts → rank t ≤ 1
-    → S (frameAt M i j .function) line′ ≡ S (frameAt M i j .function) (frameAt M i j .index) ++ ((shared t ∷ []) ∷ [])
+    → S (frameAt M i j .function) index′ ≡ S (frameAt M i j .function) (frameAt M i j .index) ++ ((shared t ∷ []) ∷ [])
     → (spare : Spot) → flat S M spare ≡ out
-    → Sound St (flat S M) R → Sound St (flat S (putFrame M i j (record { function = frameAt M i j .function; index = line′; slots = set (frameAt M i j .slots) (length (S (frameAt M i j .function) (frameAt M i j .index))) v }))) R
-share-threads St S M R i j line′ x v t ts hi hj room ex r next spare es sound =
-    subst (λ (a : Slots). Sound St a R) (flat-bind S M i j line′ v (shared t) hi hj room next)
+    → Sound St (flat S M) R → Sound St (flat S (putFrame M i j (record { function = frameAt M i j .function; index = index′; slots = set (frameAt M i j .slots) (length (S (frameAt M i j .function) (frameAt M i j .index))) v }))) R
+share-threads St S M R i j index′ x v t ts hi hj room ex r next spare es sound =
+    subst (λ (a : Slots). Sound St a R) (flat-bind S M i j index′ v (shared t) hi hj room next)
     (keeps St (flat S M) (put (flat S M) (spot i j (length (S (frameAt M i j .function) (frameAt M i j .index)))) (here v (shared t) [])) R R spare es
     (do-share (spot i j (length (S (frameAt M i j .function) (frameAt M i j .index)))) (spot i j x) v t ts ex r) sound)

@@ -141,8 +141,8 @@ module _ (p : Program) (m : Store) (fs : List Frame) (hf : Small-frames fs) (hm 
   here : Small-slots (slots p m fs)
   here = hf (length fs - 1)
 
-  goes : (line : ℕ) (ws : List Slot) (n : Store) → Small-slots ws → Small-memory n → Small-change (go p m fs line ws n)
-  goes line ws n h k = record { frames = set-all (λ (F : Frame). Small-slots (F .slots)) fs (length fs - 1) (record { function = newest fs .function; index = line; slots = ws }) no-frame h hf; memory = k; forked = tt }
+  goes : (index : ℕ) (ws : List Slot) (n : Store) → Small-slots ws → Small-memory n → Small-change (go p m fs index ws n)
+  goes index ws n h k = record { frames = set-all (λ (F : Frame). Small-slots (F .slots)) fs (length fs - 1) (record { function = newest fs .function; index = index; slots = ws }) no-frame h hf; memory = k; forked = tt }
 
   cell-small : (v : Slot) (f : ℕ) → cell p m v f .word < 2 ^ 31
   cell-small v f = hm .words (object-of v) f

@@ -92,7 +92,7 @@ pushed sc (Some c) = set sc (c .0) (core (c .1) ∷ getD sc (c .0) [])
 module _ (p : Program) (A : Notes) where
   -- a record of function n that may follow: it is there, and its scope is left of this one
   abbrev pub To : ℕ → ℕ → List (List C.Claim) → Type 0
-  To n line res = (line < length (callee p n .records)) × FallsSc res (scopes A n line)
+  To n index res = (index < length (callee p n .records)) × FallsSc res (scopes A n index)
 
   abbrev pub Leads : ℕ → ℕ → Op → Shape → Type 0
   Leads n i op Plain = To n (suc i) (more (scopes A n i) (bound p (callee p n) (types A n i) op))

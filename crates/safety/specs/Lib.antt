@@ -12,4 +12,5 @@ pub mod Owners
 pub mod Runs
 pub mod Safe
 pub mod Words
+pub mod References
 pub mod Rehearsals

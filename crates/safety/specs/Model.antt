@@ -10,10 +10,11 @@ use Rattle.table.specs.declared.types.Mode.the-variants.{Var, Val, Once, Spec}
 use Rattle.machine.specs.declared.threads.Slot.{Slot}
 use Rattle.machine.specs.declared.threads.Slot.the-variants.{Empty, Null, Number, Reference}
 
+-- what a reference may count on
 pub data Right : Type 0 where
   alias owned pristine : Right
 
--- a type: a number, or a reference of a kind, to a struct, that withholds a set of fields (a mask)
+-- a type as the invariant needs it: a number, or a reference with a right to a struct, that withholds a set of fields
 pub data Claim : Type 0 where
   num : Claim
   pt : Right → ℕ → ℕ → Claim
@@ -38,6 +39,7 @@ pub record Heap : Type 0 where
   pub kind : ℕ → ℕ
   pub mem : ℕ → ℕ → Cell
 
+-- where a slot is: its thread, its frame from the oldest, and its number
 pub data Spot : Type 0 where
   spot : ℕ → ℕ → ℕ → Spot
   deriving Discrete as Spot-discrete

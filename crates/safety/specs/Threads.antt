@@ -45,4 +45,4 @@ FallsSc (ts ∷ res) (us ∷ sc) = Suffix ts us × FallsSc res sc
 
 -- the frame (i, j) goes to a record, with other values
 abbrev pub advance : List (List Frame) → ℕ → ℕ → ℕ → List Slot → List (List Frame)
-advance M i j line′ vs = putFrame M i j (record { function = frameAt M i j .function; index = line′; slots = vs })
+advance M i j index′ vs = putFrame M i j (record { function = frameAt M i j .function; index = index′; slots = vs })

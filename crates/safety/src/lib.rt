@@ -1,7 +1,8 @@
 // What is promised of every run of an accepted table.
 ghost use Rattle.safety.specs.Rehearsals.{Rehearsals};
 ghost use Rattle.safety.specs.Safe.{Table-safe, Run-safe};
-ghost use Rattle.safety.specs.Words.{Words-stand, Names-stand};
+ghost use Rattle.safety.specs.Words.{Words-stand};
+ghost use Rattle.safety.specs.References.{Names-stand};
 
 // On every run of every table that is read and accepted: no step is stuck, no two threads clash, and no object has two owners.
 pub fn accepted_tables_stay_safe() -> u8
@@ -24,7 +25,7 @@ pub fn words_stay_small() -> u8
     0
 }
 
-// On every run of every accepted table: references name objects that are there, and a pristine slot is the only name of its object.
+// On every run of every accepted table: references name objects that are there, an object has one owner, and a pristine slot is its only name.
 pub fn references_name_objects() -> u8
     ensures { λ _. ⌜ Names-stand ⌝ }
 {
