@@ -9,14 +9,21 @@ ghost use Rattle.machine.specs.Alone.{alone, done-of, memory-after};
 use super::frames::Done;
 use super::frames::require;
 use super::plain::bind;
-use super::reading::see;
 use super::reading::resolve;
+use super::reading::see;
 use super::threads::Frame;
 use super::threads::Slot;
 use memory::keeping::Memory;
 use table::Table;
 
-pub fn get<M: Memory>(table: &Table, memory: &M, frame: Frame, z: u8, x: u8, f: u8) -> Result<Done, u8>
+pub fn get<M: Memory>(
+    table: &Table,
+    memory: &M,
+    frame: Frame,
+    z: u8,
+    x: u8,
+    f: u8,
+) -> Result<Done, u8>
     requires { ⌜ frame .index < 2 ^ 32 ⌝ }
     ensures { λ r. ⌜ ((room : ℕ) → r ≡ done-of (alone (program-of (now (table .entry))) (M·Memory .model (now (memory .entry))) frame room (Get z x f))) ⌝ }
 {
@@ -30,7 +37,14 @@ pub fn get<M: Memory>(table: &Table, memory: &M, frame: Frame, z: u8, x: u8, f: 
 }
 
 // Leaves 0 in the cell.
-pub fn take<M: Memory>(table: &Table, memory: &mut M, frame: Frame, z: u8, x: u8, f: u8) -> Result<Done, u8>
+pub fn take<M: Memory>(
+    table: &Table,
+    memory: &mut M,
+    frame: Frame,
+    z: u8,
+    x: u8,
+    f: u8,
+) -> Result<Done, u8>
     requires { ⌜ frame .index < 2 ^ 32 ⌝ }
     ensures value { λ r. ⌜ ((room : ℕ) → r ≡ done-of (alone (program-of (now (table .entry))) (M·Memory .model (now (memory .entry))) frame room (Take z x f))) ⌝ }
     ensures after { λ r. ⌜ ((room : ℕ) → M·Memory .model (now (memory .exit)) ≡ memory-after (M·Memory .model (now (memory .entry))) (alone (program-of (now (table .entry))) (M·Memory .model (now (memory .entry))) frame room (Take z x f))) ⌝ }
@@ -63,7 +77,10 @@ pub fn set<M: Memory>(
 {
     let (value, new) = (frame.at(x), frame.at(y));
     require(z < 16 && frame.gives(x) && frame.gives(y), 71)?;
-    require(value.is_reference() && fits(table, memory, value, f, new), 72)?;
+    require(
+        value.is_reference() && fits(table, memory, value, f, new),
+        72,
+    )?;
     let Some(target) = resolve(table, memory, value, f)? else {
         return Ok(frame.halts());
     };

@@ -32,7 +32,11 @@ impl Frame {
     {
         let slots: &[Slot] = &self.slots;
         let i = x as usize;
-        if i < slots.len() { slots[i] } else { Slot::Empty }
+        if i < slots.len() {
+            slots[i]
+        } else {
+            Slot::Empty
+        }
     }
 
     // Whether a slot is an operand: one of the 16, and not empty.

@@ -127,7 +127,12 @@ pub fn refers<M: Memory>(table: &Table, memory: &M, value: Slot, f: u8) -> bool
 }
 
 // What a value refers to, at a field: 73 and 74; none for what refers to nothing.
-pub fn resolve<M: Memory>(table: &Table, memory: &M, value: Slot, f: u8) -> Result<Option<Target>, u8>
+pub fn resolve<M: Memory>(
+    table: &Table,
+    memory: &M,
+    value: Slot,
+    f: u8,
+) -> Result<Option<Target>, u8>
     ensures value { λ r. ⌜ r ≡ targeted (program-of (now (table .entry))) (M·Memory .model (now (memory .entry))) value f ⌝ }
     ensures there { λ r. ⌜ In-memory (M·Memory .model (now (memory .entry))) f r ⌝ }
 {

@@ -66,7 +66,14 @@ pub fn less(frame: Frame, x: u8, y: u8) -> Result<Answer, u8>
 }
 
 // Exchanges a cell that is there; 51 where a word is none.
-fn exchange<M: Memory>(memory: &mut M, object: u32, f: u8, expected: u32, new: u32, mark: bool) -> Result<bool, u8>
+fn exchange<M: Memory>(
+    memory: &mut M,
+    object: u32,
+    f: u8,
+    expected: u32,
+    new: u32,
+    mark: bool,
+) -> Result<bool, u8>
     requires { ⌜ hasCell (M·Memory .model (now memory)) object f ≡ true ⌝ }
     ensures value { λ r. ⌜ r ≡ exchanged (M·Memory .model (now (memory .entry))) object f expected new ⌝ }
     ensures after { λ r. ⌜ M·Memory .model (now (memory .exit)) ≡ exchanged-store (M·Memory .model (now (memory .entry))) object f expected new mark ⌝ }
@@ -77,7 +84,13 @@ fn exchange<M: Memory>(memory: &mut M, object: u32, f: u8, expected: u32, new: u
     }
 }
 
-pub fn stable<M: Memory>(table: &Table, memory: &M, frame: Frame, x: u8, f: u8) -> Result<Answer, u8>
+pub fn stable<M: Memory>(
+    table: &Table,
+    memory: &M,
+    frame: Frame,
+    x: u8,
+    f: u8,
+) -> Result<Answer, u8>
     ensures { λ r. ⌜ r ≡ answered frame (trial (program-of (now (table .entry))) (M·Memory .model (now (memory .entry))) (frame .slots) (Stable x f)) ⌝ }
 {
     let value = frame.at(x);

@@ -51,7 +51,11 @@ impl Slot {
         ensures { λ r. ⌜ r ≡ cond (isWord (word-of self)) (Ok (word-of self)) (Err 51) ⌝ }
     {
         let word = self.word();
-        if word < WORD_END as u64 { Ok(word as u32) } else { Err(51) }
+        if word < WORD_END as u64 {
+            Ok(word as u32)
+        } else {
+            Err(51)
+        }
     }
 
     // What a cell of a type holds.

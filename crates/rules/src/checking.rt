@@ -44,9 +44,9 @@ impl Drop for Guard<'_> {
     }
 }
 
-// The first record of a part, unless it is refused: 20, then 21 to 27 by its rule, then 28 by its place.
+// The first record of a part, unless it is refused: 20, then 21 to 27 by its rule, then 28 and 29 by its place.
 fn judge<'t>(body: Body<'t>, types: &[Ty], part: Part) -> Result<Record<'t>, Fault>
-    requires { ⌜ part .place < part .end ⌝ }
+    requires { ⌜ part .place < part .end ⌝ ∗ ⌜ part .floor ≤ length (now types) ⌝ }
     ensures { λ r. ⌜ said-by r ≡ judged-at (body .entry) (now (types .entry)) part ⌝ }
 {
     let place = Place::Record {
@@ -62,6 +62,10 @@ fn judge<'t>(body: Body<'t>, types: &[Ty], part: Part) -> Result<Record<'t>, Fau
     }
     if !part.fits(said) {
         return Err(Fault::new(28, place));
+    }
+    // Never so: a block's bindings lie above what was in scope where it began.
+    if types.len() < part.floor {
+        return Err(Fault::new(29, place));
     }
     Ok(said)
 }
@@ -84,7 +88,7 @@ pub(crate) fn bind(body: Body<'_>, types: &mut [Ty], depth: usize, said: Record<
 
 // Checks a block's records in turn, and leaves the types in scope as they were.
 pub fn check_block(body: Body<'_>, types: &mut [Ty], depth: usize, part: Part) -> Result<(), Fault>
-    requires { ⌜ depth ≤ 16 ⌝ ∗ ⌜ 16 ≤ length (now types) ⌝ ∗ ⌜ part .end ≤ length (function-in body .records) ⌝ }
+    requires { ⌜ depth ≤ 16 ⌝ ∗ ⌜ 16 ≤ length (now types) ⌝ ∗ ⌜ part .end ≤ length (function-in body .records) ⌝ ∗ ⌜ part .floor ≤ depth ⌝ }
     ensures value { λ r. ⌜ ((f : ℕ) → part .end - part .place < f → r ≡ scanned f (body .entry) (take depth (now (types .entry))) part) ⌝ }
     ensures types { λ _. ⌜ take depth (now (types .exit)) ≡ take depth (now (types .entry)) ⌝ }
 {
@@ -101,6 +105,7 @@ pub fn check_block(body: Body<'_>, types: &mut [Ty], depth: usize, part: Part) -
                 end: part.end,
                 levels: part.levels,
                 sort: part.sort,
+                floor: part.floor,
             };
             check_block(body, types, grown, rest)
         }
@@ -117,7 +122,7 @@ fn check_test(
     yes: u16,
     no: u16,
 ) -> Result<(), Fault>
-    requires { ⌜ depth ≤ 16 ⌝ ∗ ⌜ 16 ≤ length (now types) ⌝ ∗ ⌜ part .end ≤ length (function-in body .records) ⌝ }
+    requires { ⌜ depth ≤ 16 ⌝ ∗ ⌜ 16 ≤ length (now types) ⌝ ∗ ⌜ part .end ≤ length (function-in body .records) ⌝ ∗ ⌜ part .floor ≤ depth ⌝ }
     requires { ⌜ part .place + 1 + yes + no ≤ part .end ⌝ ∗ ⌜ 1 ≤ part .levels ⌝ ∗ ⌜ test-refused-in body (take depth (now types)) test ≡ None ⌝ }
     ensures value { λ r. ⌜ ((f : ℕ) → part .end - (part .place + 1) < f → r ≡ tested f (body .entry) (take depth (now (types .entry))) part test yes no) ⌝ }
     ensures types { λ _. ⌜ take depth (now (types .exit)) ≡ take depth (now (types .entry)) ⌝ }
@@ -131,18 +136,21 @@ fn check_test(
         end: second,
         levels,
         sort: Sort::InYes(no),
+        floor: depth,
     };
     let in_no = Part {
         place: second,
         end: behind,
         levels,
         sort: Sort::InNo,
+        floor: depth,
     };
     let rest = Part {
         place: behind,
         end: part.end,
         levels: part.levels,
         sort: part.sort,
+        floor: part.floor,
     };
     check_yes(body, types, depth, in_yes, test)?;
     check_block(body, types, depth, in_no)?;
@@ -157,7 +165,7 @@ fn check_yes(
     part: Part,
     test: Test,
 ) -> Result<(), Fault>
-    requires { ⌜ depth ≤ 16 ⌝ ∗ ⌜ 16 ≤ length (now types) ⌝ ∗ ⌜ part .end ≤ length (function-in body .records) ⌝ ∗ ⌜ test-refused-in body (take depth (now types)) test ≡ None ⌝ }
+    requires { ⌜ depth ≤ 16 ⌝ ∗ ⌜ 16 ≤ length (now types) ⌝ ∗ ⌜ part .end ≤ length (function-in body .records) ⌝ ∗ ⌜ test-refused-in body (take depth (now types)) test ≡ None ⌝ ∗ ⌜ part .floor ≤ depth ⌝ }
     ensures value { λ r. ⌜ ((f : ℕ) → part .end - part .place < f → r ≡ scanned f (body .entry) (yes-types (program-in (body .entry)) (function-in (body .entry)) (take depth (now (types .entry))) test) part) ⌝ }
     ensures types { λ _. ⌜ take depth (now (types .exit)) ≡ take depth (now (types .entry)) ⌝ }
 {
@@ -198,6 +206,7 @@ fn check_body(body: Body<'_>, scratch: &mut [Ty]) -> Result<(), Fault>
         end: body.records(),
         levels: 7,
         sort: Sort::InBody,
+        floor: 0,
     };
     check_block(body, scratch, depth, whole)
 }

