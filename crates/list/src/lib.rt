@@ -1,5 +1,6 @@
 // A list over a slice that its caller lends: types in scope, and numbers put out.
 ghost use mathlib.Core.Path.{_≡_};
+ghost use mathlib.Core.Bool.{cond};
 ghost use mathlib.Core.List.{[]};
 ghost use Prim.Native.Nat.{_+_, _<_, _≤_};
 ghost use lib.Dec.{ltb};
@@ -63,12 +64,14 @@ impl<'a, T: Copy> Bounded<'a, T> {
     }
 }
 
-// Appends x to the first len items of a slice, and answers how many there are then.
+// Appends x to the first len items of a slice where there is room, and answers how many there are then.
 pub fn append<T: Copy>(items: &mut [T], len: usize, x: T) -> usize
-    requires { ⌜ len < length (now items) ⌝ }
     ensures items { λ r. ⌜ now (items .exit) ≡ set (now (items .entry)) len x ⌝ }
-    ensures len { λ r. ⌜ r ≡ len + 1 ⌝ }
+    ensures len { λ r. ⌜ r ≡ cond (ltb len (length (now (items .entry)))) (len + 1) len ⌝ }
 {
+    if len >= items.len() {
+        return len;
+    }
     let list = Bounded { items, len };
     list.grown(x)
 }

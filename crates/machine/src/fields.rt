@@ -16,7 +16,7 @@ use super::threads::Slot;
 use memory::keeping::Memory;
 use table::Table;
 
-pub fn get<M: Memory>(
+pub(crate) fn get<M: Memory>(
     table: &Table,
     memory: &M,
     frame: Frame,
@@ -37,7 +37,7 @@ pub fn get<M: Memory>(
 }
 
 // Leaves 0 in the cell.
-pub fn take<M: Memory>(
+pub(crate) fn take<M: Memory>(
     table: &Table,
     memory: &mut M,
     frame: Frame,
@@ -62,7 +62,7 @@ pub fn take<M: Memory>(
 }
 
 // Writes y's value, unmarked; what goes to an owned or pristine field leaves y null.
-pub fn set<M: Memory>(
+pub(crate) fn set<M: Memory>(
     table: &Table,
     memory: &mut M,
     frame: Frame,

@@ -18,14 +18,14 @@ use memory::keeping::Memory;
 use table::Table;
 
 // Binds a slot and goes to the next record.
-pub fn bind(frame: Frame, z: u8, value: Slot) -> Done
+pub(crate) fn bind(frame: Frame, z: u8, value: Slot) -> Done
     requires { ⌜ z < 16 ⌝ ∗ ⌜ frame .index < 2 ^ 32 ⌝ }
     ensures { λ r. ⌜ r ≡ record { status = Running; frame = record { function = frame .function; index = suc (frame .index); slots = set (frame .slots) z value }; out = None } ⌝ }
 {
     frame.with(z, value).goes(frame.index + 1)
 }
 
-pub fn null(table: &Table, frame: Frame, z: u8, s: u8) -> Result<Done, u8>
+pub(crate) fn null(table: &Table, frame: Frame, z: u8, s: u8) -> Result<Done, u8>
     requires { ⌜ frame .index < 2 ^ 32 ⌝ }
     ensures { λ r. ⌜ ((m : Store) (room : ℕ) → r ≡ done-of (alone (program-of (now (table .entry))) m frame room (Null z s))) ⌝ }
 {
@@ -34,7 +34,7 @@ pub fn null(table: &Table, frame: Frame, z: u8, s: u8) -> Result<Done, u8>
     Ok(bind(frame, z, Slot::Null))
 }
 
-pub fn int(frame: Frame, z: u8, number: u32) -> Result<Done, u8>
+pub(crate) fn int(frame: Frame, z: u8, number: u32) -> Result<Done, u8>
     requires { ⌜ frame .index < 2 ^ 32 ⌝ }
     ensures { λ r. ⌜ ((p : Program) (m : Store) (room : ℕ) → r ≡ done-of (alone p m frame room (Int z number))) ⌝ }
 {
@@ -42,7 +42,7 @@ pub fn int(frame: Frame, z: u8, number: u32) -> Result<Done, u8>
     Ok(bind(frame, z, Slot::Number(number)))
 }
 
-pub fn share(frame: Frame, z: u8, x: u8) -> Result<Done, u8>
+pub(crate) fn share(frame: Frame, z: u8, x: u8) -> Result<Done, u8>
     requires { ⌜ frame .index < 2 ^ 32 ⌝ }
     ensures { λ r. ⌜ ((p : Program) (m : Store) (room : ℕ) → r ≡ done-of (alone p m frame room (Share z x))) ⌝ }
 {
@@ -50,7 +50,7 @@ pub fn share(frame: Frame, z: u8, x: u8) -> Result<Done, u8>
     Ok(bind(frame, z, frame.at(x)))
 }
 
-pub fn own(frame: Frame, z: u8, x: u8) -> Result<Done, u8>
+pub(crate) fn own(frame: Frame, z: u8, x: u8) -> Result<Done, u8>
     requires { ⌜ frame .index < 2 ^ 32 ⌝ }
     ensures { λ r. ⌜ ((p : Program) (m : Store) (room : ℕ) → r ≡ done-of (alone p m frame room (Own z x))) ⌝ }
 {
@@ -60,7 +60,7 @@ pub fn own(frame: Frame, z: u8, x: u8) -> Result<Done, u8>
     Ok(bind(frame.with(x, Slot::Null), z, value))
 }
 
-pub fn add(frame: Frame, z: u8, x: u8, y: u8) -> Result<Done, u8>
+pub(crate) fn add(frame: Frame, z: u8, x: u8, y: u8) -> Result<Done, u8>
     requires { ⌜ frame .index < 2 ^ 32 ⌝ }
     ensures { λ r. ⌜ ((p : Program) (m : Store) (room : ℕ) → r ≡ done-of (alone p m frame room (Add z x y))) ⌝ }
 {
@@ -71,14 +71,14 @@ pub fn add(frame: Frame, z: u8, x: u8, y: u8) -> Result<Done, u8>
     Ok(bind(frame, z, Slot::Number(sum as u32)))
 }
 
-pub fn join(frame: Frame, number: u32) -> Done
+pub(crate) fn join(frame: Frame, number: u32) -> Done
     requires { ⌜ frame .index < 2 ^ 32 ⌝ }
     ensures { λ r. ⌜ ((p : Program) (m : Store) (room : ℕ) → Ok r ≡ done-of (alone p m frame room (Join number))) ⌝ }
 {
     frame.goes(frame.index + 1 + number as usize)
 }
 
-pub fn emit(frame: Frame, x: u8, room: usize) -> Result<Done, u8>
+pub(crate) fn emit(frame: Frame, x: u8, room: usize) -> Result<Done, u8>
     requires { ⌜ frame .index < 2 ^ 32 ⌝ }
     ensures { λ r. ⌜ ((p : Program) (m : Store) → r ≡ done-of (alone p m frame room (Emit x))) ⌝ }
 {
@@ -92,7 +92,13 @@ pub fn emit(frame: Frame, x: u8, room: usize) -> Result<Done, u8>
     Ok(done)
 }
 
-pub fn new<M: Memory>(table: &Table, memory: &mut M, frame: Frame, z: u8, s: u8) -> Result<Done, u8>
+pub(crate) fn new<M: Memory>(
+    table: &Table,
+    memory: &mut M,
+    frame: Frame,
+    z: u8,
+    s: u8,
+) -> Result<Done, u8>
     requires { ⌜ frame .index < 2 ^ 32 ⌝ }
     ensures value { λ r. ⌜ ((room : ℕ) → r ≡ done-of (alone (program-of (now (table .entry))) (M·Memory .model (now (memory .entry))) frame room (New z s))) ⌝ }
     ensures after { λ r. ⌜ ((room : ℕ) → M·Memory .model (now (memory .exit)) ≡ memory-after (M·Memory .model (now (memory .entry))) (alone (program-of (now (table .entry))) (M·Memory .model (now (memory .entry))) frame room (New z s))) ⌝ }

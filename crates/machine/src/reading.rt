@@ -38,7 +38,7 @@ pub struct Target {
 }
 
 // Whether the memory has the object.
-pub fn has_object<M: Memory>(memory: &M, value: Slot) -> bool
+pub(crate) fn has_object<M: Memory>(memory: &M, value: Slot) -> bool
     ensures { λ r. ⌜ ((p : Program) → r ≡ has-object p (M·Memory .model (now (memory .entry))) value) ⌝ }
 {
     match value {
@@ -65,7 +65,7 @@ fn width<M: Memory>(table: &Table, memory: &M, object: u32) -> usize
     table.fields(kind_of(memory, object))
 }
 
-pub fn field_at<M: Memory>(table: &Table, memory: &M, object: u32, f: u8) -> Field
+pub(crate) fn field_at<M: Memory>(table: &Table, memory: &M, object: u32, f: u8) -> Field
     ensures value { λ r. ⌜ r ≡ field (program-of (now (table .entry))) (M·Memory .model (now (memory .entry))) (Reference object) f ⌝ }
 {
     match table.field(kind_of(memory, object), f as usize) {
@@ -75,7 +75,7 @@ pub fn field_at<M: Memory>(table: &Table, memory: &M, object: u32, f: u8) -> Fie
 }
 
 // A cell that is there.
-pub fn cell_at<M: Memory>(memory: &M, object: u32, f: u8) -> Cell
+pub(crate) fn cell_at<M: Memory>(memory: &M, object: u32, f: u8) -> Cell
     requires { ⌜ hasObject (M·Memory .model (now memory)) object ≡ true ⌝ ∗ ⌜ f < 8 ⌝ }
     ensures { λ r. ⌜ r ≡ cellAt (M·Memory .model (now (memory .entry))) object f ⌝ }
 {
@@ -89,7 +89,7 @@ pub fn cell_at<M: Memory>(memory: &M, object: u32, f: u8) -> Cell
 }
 
 // Whether the object's struct has the field; a null, and an object that is not there, hide it.
-pub fn has_field<M: Memory>(table: &Table, memory: &M, value: Slot, f: u8) -> bool
+pub(crate) fn has_field<M: Memory>(table: &Table, memory: &M, value: Slot, f: u8) -> bool
     ensures value { λ r. ⌜ r ≡ has-field (program-of (now (table .entry))) (M·Memory .model (now (memory .entry))) value f ⌝ }
 {
     match value {
@@ -101,7 +101,7 @@ pub fn has_field<M: Memory>(table: &Table, memory: &M, value: Slot, f: u8) -> bo
 }
 
 // The field of the object that a value refers to, if both are there.
-pub fn see<M: Memory>(table: &Table, memory: &M, value: Slot, f: u8) -> Option<Field>
+pub(crate) fn see<M: Memory>(table: &Table, memory: &M, value: Slot, f: u8) -> Option<Field>
     ensures value { λ r. ⌜ r ≡ seen (program-of (now (table .entry))) (M·Memory .model (now (memory .entry))) value f ⌝ }
 {
     let Slot::Reference(object) = value else {
@@ -117,7 +117,7 @@ pub fn see<M: Memory>(table: &Table, memory: &M, value: Slot, f: u8) -> Option<F
 }
 
 // Whether the field is a reference, where that can be judged.
-pub fn refers<M: Memory>(table: &Table, memory: &M, value: Slot, f: u8) -> bool
+pub(crate) fn refers<M: Memory>(table: &Table, memory: &M, value: Slot, f: u8) -> bool
     ensures { λ r. ⌜ r ≡ refers (program-of (now (table .entry))) (M·Memory .model (now (memory .entry))) value f ⌝ }
 {
     match see(table, memory, value, f) {
@@ -127,7 +127,7 @@ pub fn refers<M: Memory>(table: &Table, memory: &M, value: Slot, f: u8) -> bool
 }
 
 // What a value refers to, at a field: 73 and 74; none for what refers to nothing.
-pub fn resolve<M: Memory>(
+pub(crate) fn resolve<M: Memory>(
     table: &Table,
     memory: &M,
     value: Slot,

@@ -29,7 +29,7 @@ fn told(frame: Frame, says: bool) -> Answer
     if says { Answer::Yes(frame) } else { Answer::No }
 }
 
-pub fn nil(frame: Frame, x: u8) -> Result<Answer, u8>
+pub(crate) fn nil(frame: Frame, x: u8) -> Result<Answer, u8>
     ensures { λ r. ⌜ ((p : Program) (m : Store) → r ≡ answered frame (trial p m (frame .slots) (Nil x))) ⌝ }
 {
     let value = frame.at(x);
@@ -38,7 +38,7 @@ pub fn nil(frame: Frame, x: u8) -> Result<Answer, u8>
     Ok(told(frame, value.is_null()))
 }
 
-pub fn same(frame: Frame, x: u8, y: u8) -> Result<Answer, u8>
+pub(crate) fn same(frame: Frame, x: u8, y: u8) -> Result<Answer, u8>
     ensures { λ r. ⌜ ((p : Program) (m : Store) → r ≡ answered frame (trial p m (frame .slots) (Same x y))) ⌝ }
 {
     let (a, b) = (frame.at(x), frame.at(y));
@@ -47,7 +47,7 @@ pub fn same(frame: Frame, x: u8, y: u8) -> Result<Answer, u8>
     Ok(told(frame, a.word() == b.word()))
 }
 
-pub fn equal(frame: Frame, x: u8, y: u8) -> Result<Answer, u8>
+pub(crate) fn equal(frame: Frame, x: u8, y: u8) -> Result<Answer, u8>
     ensures { λ r. ⌜ ((p : Program) (m : Store) → r ≡ answered frame (trial p m (frame .slots) (Equal x y))) ⌝ }
 {
     let (a, b) = (frame.at(x), frame.at(y));
@@ -56,7 +56,7 @@ pub fn equal(frame: Frame, x: u8, y: u8) -> Result<Answer, u8>
     Ok(told(frame, a.word() == b.word()))
 }
 
-pub fn less(frame: Frame, x: u8, y: u8) -> Result<Answer, u8>
+pub(crate) fn less(frame: Frame, x: u8, y: u8) -> Result<Answer, u8>
     ensures { λ r. ⌜ ((p : Program) (m : Store) → r ≡ answered frame (trial p m (frame .slots) (Less x y))) ⌝ }
 {
     let (a, b) = (frame.at(x), frame.at(y));
@@ -84,7 +84,7 @@ fn exchange<M: Memory>(
     }
 }
 
-pub fn stable<M: Memory>(
+pub(crate) fn stable<M: Memory>(
     table: &Table,
     memory: &M,
     frame: Frame,

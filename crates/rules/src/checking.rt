@@ -87,7 +87,7 @@ pub(crate) fn bind(body: Body<'_>, types: &mut [Ty], depth: usize, said: Record<
 }
 
 // Checks a block's records in turn, and leaves the types in scope as they were.
-pub fn check_block(body: Body<'_>, types: &mut [Ty], depth: usize, part: Part) -> Result<(), Fault>
+fn check_block(body: Body<'_>, types: &mut [Ty], depth: usize, part: Part) -> Result<(), Fault>
     requires { ⌜ depth ≤ 16 ⌝ ∗ ⌜ 16 ≤ length (now types) ⌝ ∗ ⌜ part .end ≤ length (function-in body .records) ⌝ ∗ ⌜ part .floor ≤ depth ⌝ }
     ensures value { λ r. ⌜ ((f : ℕ) → part .end - part .place < f → r ≡ scanned f (body .entry) (take depth (now (types .entry))) part) ⌝ }
     ensures types { λ _. ⌜ take depth (now (types .exit)) ≡ take depth (now (types .entry)) ⌝ }

@@ -1,8 +1,11 @@
-use Prim.Native.Nat.{_<_, _≤_}
+use mathlib.Core.Path.{_≡_, _∙_}
+use Prim.Native.Nat.{_+_, _<_, _≤_}
 use borrow.Author.Needs.{needs}
 use native.Mathlib.Omega.{arith}
+use lib.Dec.{ltb}
 use lib.ListN.{length, take}
 use Rattle.std.proofs.shelf.Lists.{length-take-le}
+use Rattle.std.proofs.shelf.Tests.{lt-ltb, cond-true}
 use Rattle.table.specs.Records.{meant}
 use Rattle.rules.specs.Rules.{bound}
 use Rattle.rules.specs.Seen.{program-in, function-in}
@@ -15,17 +18,6 @@ binds-requires c κs =
     let b = c .args .body in
     accepted-low (program-in b) (function-in b) (seen-narrow (b .table)) (take (c .args .depth) (c .args .types .now)) (meant (c .args .said)) (c .pre .0)
 
-pub append-requires : need.append-requires
-append-requires c κs =
-    let b = c .args .body in
-    let long : 16 ≤ length (c .args .types .now) = search needs in
-    let deep : c .args .depth ≤ 16 = search needs in
-    let size = length-take-le (c .args .depth) (c .args .types .now) (omega arith) in
-    let low : length (take (c .args .depth) (c .args .types .now)) < 16 =
-    accepted-room (program-in b) (function-in b) (take (c .args .depth) (c .args .types .now)) (meant (c .args .said)) (c .in-Some .ty) (c .pre .0) (c .in-Some .ensures tt)
-    in
-    omega arith
-
 pub returns-in-Some : need.returns-in-Some
 returns-in-Some c =
     let b = c .args .body in
@@ -35,7 +27,10 @@ returns-in-Some c =
     let low : length (take (c .args .depth) (c .args .types .now)) < 16 =
     accepted-room (program-in b) (function-in b) (take (c .args .depth) (c .args .types .now)) (meant (c .args .said)) (c .in-Some .ty) (c .pre .0) (c .in-Some .ensures tt)
     in
+    let more : c .append .result ≡ c .args .depth + 1 =
+    c .append .ensures .len ∙ cond-true (ltb (c .args .depth) (length (c .args .types .now))) (c .args .depth + 1) (c .args .depth) (lt-ltb (c .args .depth) (length (c .args .types .now)) (omega arith))
+    in
     record {
-      types = bound-pushed (c .args .depth) (c .append .result) (c .args .types .now) (c .append .last .items) (c .in-Some .ty) (bound (program-in b) (function-in b) (take (c .args .depth) (c .args .types .now)) (meant (c .args .said))) (omega arith) (c .append .ensures .len) (c .append .ensures .items) (c .in-Some .ensures tt);
-      depth = (omega (arith, c .append .ensures .len), omega (arith, c .append .ensures .len));
+      types = bound-pushed (c .args .depth) (c .append .result) (c .args .types .now) (c .append .last .items) (c .in-Some .ty) (bound (program-in b) (function-in b) (take (c .args .depth) (c .args .types .now)) (meant (c .args .said))) (omega arith) more (c .append .ensures .items) (c .in-Some .ensures tt);
+      depth = (omega arith, omega arith);
     }
