@@ -1,12 +1,11 @@
 -- What a write to a byte image changes.
 use mathlib.Core.Path.{_≡_, refl, sym, ap, _∙_}
 use mathlib.Core.List.{List, [], _∷_, _++_, map}
-use mathlib.Core.Bool.{Bool, true, false, cond, _&&_}
+use mathlib.Core.Bool.{Bool, true, false, cond}
 use mathlib.Core.Logic.{_⊎_, inl, inr, ⊎-elim, _≢_}
-use Prim.Native.Nat.{ℕ, zero, suc, _+_, _-_, _*_, _/_, _%_, _^_, _≤_, _<_, min}
+use Prim.Native.Nat.{ℕ, zero, suc, _+_, _*_, _/_, _%_, _^_, _≤_, _<_, min}
 use native.Mathlib.Omega.{arith}
 use native.Mathlib.Nat.{div-div-eq-div-mul}
-use lib.Dec.{eqb, ltb}
 use Rattle.std.proofs.shelf.Ways.{tells}
 use lib.ListN.{length, getD, set, replicate, length-set}
 use lib.Seq.{getD-set-same, getD-set-other}
@@ -18,7 +17,7 @@ use Rattle.memory.specs.declared.object.Cell.{Cell}
 use Rattle.memory.specs.declared.object.Object.{Object}
 use Rattle.memory.specs.Words.{wordAt, withWord}
 use Rattle.memory.specs.Images.{objectsIn, imageOf, roomIn, heldIn, objectIn, cellIn, cellFrom, cellNumber, zeroed, blanked, Layout}
-use Rattle.memory.specs.Model.{Store, Sized, plain, fresh, objectAt, cellAt, withCell, withObject}
+use Rattle.memory.specs.Model.{Sized, plain, fresh, cellAt, withCell, withObject}
 
 abbrev none : Object
 none = record { kind = 0; cells = [] }
@@ -80,10 +79,10 @@ map-same f g n d same =
 pub map-set : {X : Type 0} (f g : ℕ → X) (n o : ℕ) (x d : X) → o < n → ((k : ℕ) → k < n → (k ≡ o → ⊥) → g k ≡ f k) → g o ≡ x → map g (counting 0 n) ≡ set (map f (counting 0 n)) o x
 map-set f g n o x d lt same here =
     sym (fill-by-all g (set (map f (counting 0 n)) o x) n d (length-set (map f (counting 0 n)) o x ∙ length-map-counting f 0 n)
-      (λ k h. ⊎-elim
-        (λ e. let l : o < length (map f (counting 0 n)) = omega (arith, length-map-counting f 0 n) in rw e (getD-set-same (map f (counting 0 n)) o x d l ∙ sym here))
-        (λ ne. getD-set-other (map f (counting 0 n)) o k x d ne ∙ getD-map-counting f 0 n k k d h (omega arith) ∙ sym (same k h ne))
-        (cases-eq k o)))
+    (λ k h. ⊎-elim
+    (λ e. let l : o < length (map f (counting 0 n)) = omega (arith, length-map-counting f 0 n) in rw e (getD-set-same (map f (counting 0 n)) o x d l ∙ sym here))
+    (λ ne. getD-set-other (map f (counting 0 n)) o k x d ne ∙ getD-map-counting f 0 n k k d h (omega arith) ∙ sym (same k h ne))
+    (cases-eq k o)))
 
 abbrev zero-cell : Cell
 zero-cell = plain 0
@@ -106,7 +105,7 @@ object-same bs cs o k e =
     ∙ ap (made (min (wordAt bs (36 * o)) 255)) (map-same (cellIn bs o) (cellIn cs o) 8 zero-cell (λ j h. ap cellFrom (e j h)))
 
 pub objects-store : (n : ℕ) (bs : List ℕ) (o c v : ℕ) → o < n → c < 8 → 36 * n ≤ length bs → v < 2 ^ 32
-  → objectsIn n (withWord bs (36 * o + 4 + 4 * c) v) ≡ set (objectsIn n bs) o (made (getD (objectsIn n bs) o none .kind) (set (getD (objectsIn n bs) o none .cells) c (cellFrom v)))
+    → objectsIn n (withWord bs (36 * o + 4 + 4 * c) v) ≡ set (objectsIn n bs) o (made (getD (objectsIn n bs) o none .kind) (set (getD (objectsIn n bs) o none .cells) c (cellFrom v)))
 unfolding objectsIn
 objects-store n bs o c v ho hc hl hv =
     let p = 36 * o + 4 + 4 * c in
@@ -114,15 +113,15 @@ objects-store n bs o c v ho hc hl hv =
     let e = object-at n bs o ho in
     let g : Object → Object = λ x. made (x .kind) (set (x .cells) c (cellFrom v)) in
     map-set (objectIn bs) (objectIn cs) n o (g (getD (objectsIn n bs) o none)) none ho
-      (λ k h ne. object-same bs cs k
-        (word-other bs p (36 * k) v (⊎-elim (λ l. inl (omega arith)) (λ l. inr (omega arith)) (cases-lt k o)))
-        (λ j hj. word-other bs p (36 * k + 4 + 4 * j) v (⊎-elim (λ l. inl (omega arith)) (λ l. inr (omega arith)) (cases-lt k o))))
-      (ap (λ (w : ℕ). made (min w 255) (map (cellIn cs o) (counting 0 8))) (word-other bs p (36 * o) v (inl (omega arith)))
-       ∙ ap (made (min (wordAt bs (36 * o)) 255))
-         (map-set (cellIn bs o) (cellIn cs o) 8 c (cellFrom v) zero-cell hc
-           (λ j h ne. ap cellFrom (word-other bs p (36 * o + 4 + 4 * j) v (⊎-elim (λ l. inl (omega arith)) (λ l. inr (omega arith)) (cases-lt j c))))
-           (ap cellFrom (word-same bs p v (omega arith) hv)))
-       ∙ ap g (sym e))
+    (λ k h ne. object-same bs cs k
+    (word-other bs p (36 * k) v (⊎-elim (λ l. inl (omega arith)) (λ l. inr (omega arith)) (cases-lt k o)))
+    (λ j hj. word-other bs p (36 * k + 4 + 4 * j) v (⊎-elim (λ l. inl (omega arith)) (λ l. inr (omega arith)) (cases-lt k o))))
+    (ap (λ (w : ℕ). made (min w 255) (map (cellIn cs o) (counting 0 8))) (word-other bs p (36 * o) v (inl (omega arith)))
+    ∙ ap (made (min (wordAt bs (36 * o)) 255))
+    (map-set (cellIn bs o) (cellIn cs o) 8 c (cellFrom v) zero-cell hc
+    (λ j h ne. ap cellFrom (word-other bs p (36 * o + 4 + 4 * j) v (⊎-elim (λ l. inl (omega arith)) (λ l. inr (omega arith)) (cases-lt j c))))
+    (ap cellFrom (word-same bs p v (omega arith) hv)))
+    ∙ ap g (sym e))
 
 length-zeroed : (c : ℕ) (bs : List ℕ) (p : ℕ) → length (zeroed c bs p) ≡ length bs
 length-zeroed zero bs p = refl
@@ -136,9 +135,9 @@ zeroed-at : (c : ℕ) (bs : List ℕ) (p j : ℕ) → j < c → p + 4 + 4 * c �
 zeroed-at zero bs p j h l = absurd (omega arith)
 zeroed-at (suc c) bs p j h l =
     ⊎-elim
-      (λ e. rw e (word-same (zeroed c bs p) (p + 4 + 4 * c) 0 (omega (arith, length-zeroed c bs p)) (omega arith)))
-      (λ ne. word-other (zeroed c bs p) (p + 4 + 4 * c) (p + 4 + 4 * j) 0 (inl (omega arith)) ∙ zeroed-at c bs p j (omega arith) (omega arith))
-      (cases-eq j c)
+    (λ e. rw e (word-same (zeroed c bs p) (p + 4 + 4 * c) 0 (omega (arith, length-zeroed c bs p)) (omega arith)))
+    (λ ne. word-other (zeroed c bs p) (p + 4 + 4 * c) (p + 4 + 4 * j) 0 (inl (omega arith)) ∙ zeroed-at c bs p j (omega arith) (omega arith))
+    (cases-eq j c)
 
 pub length-blanked : (bs : List ℕ) (o k : ℕ) → length (blanked bs o k) ≡ length bs
 length-blanked bs o k = length-zeroed 8 (withWord bs (36 * o) k) (36 * o) ∙ length-withWord bs (36 * o) k
@@ -149,12 +148,12 @@ objects-add n bs k h hk =
     let ds = withWord bs (36 * n) k in
     let cs = blanked bs n k in
     let front : map (objectIn cs) (counting 0 n) ≡ map (objectIn bs) (counting 0 n)
-              = map-same (objectIn bs) (objectIn cs) n none (λ o ho. object-same bs cs o
-                  (zeroed-other 8 ds (36 * n) (36 * o) (omega arith) ∙ word-other bs (36 * n) (36 * o) k (inl (omega arith)))
-                  (λ j hj. zeroed-other 8 ds (36 * n) (36 * o + 4 + 4 * j) (omega arith) ∙ word-other bs (36 * n) (36 * o + 4 + 4 * j) k (inl (omega arith)))) in
+    = map-same (objectIn bs) (objectIn cs) n none (λ o ho. object-same bs cs o
+    (zeroed-other 8 ds (36 * n) (36 * o) (omega arith) ∙ word-other bs (36 * n) (36 * o) k (inl (omega arith)))
+    (λ j hj. zeroed-other 8 ds (36 * n) (36 * o + 4 + 4 * j) (omega arith) ∙ word-other bs (36 * n) (36 * o + 4 + 4 * j) k (inl (omega arith)))) in
     let cells : replicate 8 zero-cell ≡ map (cellIn cs n) (counting 0 8)
-              = fill-by-all (cellIn cs n) (replicate 8 zero-cell) 8 zero-cell refl
-                  (λ j hj. getD-replicate 8 j zero-cell zero-cell hj ∙ ap cellFrom (sym (zeroed-at 8 ds (36 * n) j hj (omega (arith, length-withWord bs (36 * n) k))))) in
+    = fill-by-all (cellIn cs n) (replicate 8 zero-cell) 8 zero-cell refl
+    (λ j hj. getD-replicate 8 j zero-cell zero-cell hj ∙ ap cellFrom (sym (zeroed-at 8 ds (36 * n) j hj (omega (arith, length-withWord bs (36 * n) k))))) in
     let number : wordAt cs (36 * n) ≡ k = zeroed-other 8 ds (36 * n) (36 * n) (omega arith) ∙ word-same bs (36 * n) k (omega arith) (omega arith) in
     let kind : min (wordAt cs (36 * n)) 255 ≡ k = omega (arith, number) in
     let last : objectIn cs n ≡ fresh k = ap (λ (w : ℕ). made w (map (cellIn cs n) (counting 0 8))) kind ∙ ap (made k) (sym cells) in
@@ -181,23 +180,23 @@ cell-at n bs o c h k =
     ap (λ (x : Object). getD (x .cells) c zero-cell) (object-at (heldIn n bs) bs o h) ∙ getD-map-counting (cellIn bs o) 0 8 c c zero-cell k (omega arith)
 
 pub image-write : (n : ℕ) (bs cs : List ℕ) (o c : ℕ) (v : Cell) → cs ≡ withWord bs (36 * o + 4 + 4 * c) (cellNumber v)
-  → o < heldIn n bs → c < 8 → v .word < 2 ^ 31 → imageOf n cs ≡ withCell (imageOf n bs) o c v
+    → o < heldIn n bs → c < 8 → v .word < 2 ^ 31 → imageOf n cs ≡ withCell (imageOf n bs) o c v
 image-write n bs cs o c v e ho hc hv =
     let small : cellNumber v < 2 ^ 32 = grind (arith, tells) in
     let len : length cs ≡ length bs = ap length e ∙ length-withWord bs (36 * o + 4 + 4 * c) (cellNumber v) in
     ap (λ (l : ℕ). record { capacity = min (l / 36) 1024; objects = objectsIn (min n (min (l / 36) 1024)) cs }) len
     ∙ ap (λ (xs : List Object). record { capacity = roomIn bs; objects = xs })
-        (ap (objectsIn (heldIn n bs)) e ∙ objects-store (heldIn n bs) bs o c (cellNumber v) ho hc (omega arith) small)
+    (ap (objectsIn (heldIn n bs)) e ∙ objects-store (heldIn n bs) bs o c (cellNumber v) ho hc (omega arith) small)
     ∙ ap (withCell (imageOf n bs) o c) (cell-back v)
 
 pub image-grown : (n j : ℕ) (bs cs : List ℕ) (k : ℕ) → cs ≡ blanked bs j k → j ≡ heldIn n bs → j < roomIn bs → k ≤ 255
-  → imageOf (j + 1) cs ≡ withObject (imageOf n bs) k
+    → imageOf (j + 1) cs ≡ withObject (imageOf n bs) k
 image-grown n j bs cs k e held h hk =
     let len : length cs ≡ length bs = ap length e ∙ length-blanked bs j k in
-    let all : heldIn (j + 1) bs ≡ j + 1 = omega arith in
-    ap (λ (l : ℕ). record { capacity = min (l / 36) 1024; objects = objectsIn (min (j + 1) (min (l / 36) 1024)) cs }) len
-    ∙ ap (λ (xs : List Object). record { capacity = roomIn bs; objects = xs })
-        (ap (λ (i : ℕ). objectsIn i cs) all ∙ ap (objectsIn (j + 1)) e ∙ objects-add j bs k (omega arith) hk ∙ ap (λ (i : ℕ). objectsIn i bs ++ (fresh k ∷ [])) held)
+    let all : heldIn (j + 1) cs ≡ j + 1 = omega arith in
+    let grown : objectsIn (j + 1) cs ≡ objectsIn j bs ++ (fresh k ∷ []) = ap (objectsIn (j + 1)) e ∙ objects-add j bs k (omega arith) hk in
+    let room : roomIn cs ≡ roomIn bs = ap (λ (l : ℕ). min (l / 36) 1024) len in
+    rw (all, grown, room, ← held) refl
 
 pub image-none : (r : ℕ) (bs : List ℕ) → objectsIn (min 0 r) bs ≡ []
 unfolding objectsIn
@@ -212,10 +211,10 @@ image-layout n bs =
     record {
       whole = rw (length-image j bs) (omega arith);
       kinds = λ o h small.
-        let lt : o < j = rw (length-image j bs) at h in
-        let e : getD (objectsIn j bs) o none .kind ≡ min (wordAt bs (36 * o)) 255 = ap (λ (x : Object). x .kind) (object-at j bs o lt) in
-        omega (arith, e);
+          let lt : o < j = rw (length-image j bs) at h in
+          let e : getD (objectsIn j bs) o none .kind ≡ min (wordAt bs (36 * o)) 255 = ap (λ (x : Object). x .kind) (object-at j bs o lt) in
+          omega (arith, e);
       cells = λ o c h hc.
-        let lt : o < j = rw (length-image j bs) at h in
-        sym (ap cellNumber (cell-at n bs o c lt hc) ∙ number-back (wordAt bs (36 * o + 4 + 4 * c)))
+          let lt : o < j = rw (length-image j bs) at h in
+          sym (ap cellNumber (cell-at n bs o c lt hc) ∙ number-back (wordAt bs (36 * o + 4 + 4 * c)));
     }

@@ -1,22 +1,19 @@
 -- What calls keep: one call, and then a list of them.
 use mathlib.Core.Path.{_≡_, refl, sym, ap, _∙_}
-use mathlib.Core.List.{List, [], _∷_, _++_, map}
-use mathlib.Core.Bool.{Bool, true, false, cond, _&&_, _||_, not}
-use mathlib.Core.Logic.{_⊎_, inl, inr, ⊎-elim}
+use mathlib.Core.List.{List, [], _∷_, _++_}
+use mathlib.Core.Bool.{Bool, true, false, _&&_, not}
+use mathlib.Core.Logic.{⊎-elim}
 use Prim.Native.Nat.{ℕ, zero, suc, _+_, _-_, _^_, _≤_, _<_}
 use native.Mathlib.Omega.{arith}
 use lib.Dec.{leb, ltb, eqb}
 use lib.ListN.{length, getD, set, take, replicate, length-set, List·getD-map}
 use Rattle.std.proofs.shelf.Lists.{map-append, map-set, set-getD, length-map, length-append, append-assoc, append-nil, getD-append-left, getD-append-right, getD-past, getD-replicate, getD-set-same, getD-set-other, set-past}
 use Rattle.std.proofs.shelf.Tests.{leb-true, ltb-true, ltb-false, eqb-true, eq-eqb, cases-eq, cases-lt, and-parts, and-from, or-parts, both-ways}
-use Rattle.std.specs.declared.result.Result.{Result}
-use Rattle.std.specs.declared.result.Result.the-variants.{Ok, Err}
-use Rattle.table.specs.declared.fault.Fault.{Fault}
 use Rattle.memory.specs.declared.object.Cell.{Cell}
 use Rattle.memory.specs.declared.object.Object.{Object}
 use Rattle.memory.specs.declared.replay.Call.{Call}
 use Rattle.memory.specs.declared.replay.Call.the-variants.{Add, Store as Put, Exchange}
-use Rattle.memory.specs.Model.{Store, countOf, plain, fresh, objectAt, cellAt, withObject, withCell, hasCell, isWord, there, unlessRefused, onYes, addOf, matching, exchangeOf}
+use Rattle.memory.specs.Model.{Store, countOf, plain, fresh, objectAt, cellAt, withObject, withCell, hasCell, isWord, matching}
 use Rattle.memory.specs.Calls.{afterCall, afterCalls, kindsIn, asked, askedBy, storesTo, names, anyOf, Whole, Keeps}
 
 abbrev none : Object
@@ -78,7 +75,7 @@ shown-add m k ks = by (leb k 15) (ltb (countOf m) (m .capacity)) refl refl
         let lt = ltb-true (countOf m) (m .capacity) eb in
         let more : m .capacity - countOf m ≡ suc (m .capacity - (countOf m + 1)) = omega arith in
         rw (ea, eb, more, length-append (m .objects) (fresh k ∷ []), map-append kind-in (m .objects) (fresh k ∷ []))
-          (append-assoc (kindsIn m) (k ∷ []) (take (m .capacity - (countOf m + 1)) ks))
+        (append-assoc (kindsIn m) (k ∷ []) (take (m .capacity - (countOf m + 1)) ks))
     by true false ea eb =
         let full : m .capacity - countOf m ≡ 0 = omega (arith, ltb-false (countOf m) (m .capacity) eb) in
         rw (ea, eb, full) refl
@@ -100,14 +97,14 @@ cell-with-other : (m : Store) (p d : ℕ) (v : Cell) (o c : ℕ) → (eqb o p &&
 cell-with-other m p d v o c h =
     let y : Object = record { kind = objectAt m p .kind; cells = set (objectAt m p .cells) d v } in
     ⊎-elim
-      (λ same.
-        let ne : c ≡ d → ⊥ = λ f. both-ways (eqb o p && eqb c d) h (and-from (eqb o p) (eqb c d) (eq-eqb o p same) (eq-eqb c d f)) in
-        ⊎-elim
-          (λ lt. rw same (ap (cell-of c) (getD-set-same (m .objects) p y none lt) ∙ getD-set-other (objectAt m p .cells) d c v (plain 0) ne))
-          (λ past. ap (λ (xs : List Object). cell-of c (getD xs o none)) (set-past (m .objects) p y past))
-          (cases-lt p (countOf m)))
-      (λ other. ap (cell-of c) (getD-set-other (m .objects) p o y none other))
-      (cases-eq o p)
+    (λ same.
+    let ne : c ≡ d → ⊥ = λ f. both-ways (eqb o p && eqb c d) h (and-from (eqb o p) (eqb c d) (eq-eqb o p same) (eq-eqb c d f)) in
+    ⊎-elim
+    (λ lt. rw same (ap (cell-of c) (getD-set-same (m .objects) p y none lt) ∙ getD-set-other (objectAt m p .cells) d c v (plain 0) ne))
+    (λ past. ap (λ (xs : List Object). cell-of c (getD xs o none)) (set-past (m .objects) p y past))
+    (cases-lt p (countOf m)))
+    (λ other. ap (cell-of c) (getD-set-other (m .objects) p o y none other))
+    (cases-eq o p)
 
 fresh-cell : (k c : ℕ) → cell-of c (fresh k) ≡ plain 0
 fresh-cell k c = ⊎-elim (λ lt. getD-replicate 8 c (plain 0) (plain 0) lt) (λ ge. getD-past (replicate 8 (plain 0)) c (plain 0) ge) (cases-lt c 8)
@@ -120,14 +117,14 @@ object-new m k =
 cell-grown : (m : Store) (k o c : ℕ) → cellAt (withObject m k) o c ≡ cellAt m o c
 cell-grown m k o c =
     ⊎-elim
-      (λ lt. ap (cell-of c) (getD-append-left (m .objects) (fresh k ∷ []) none o lt))
-      (λ ge.
-        let past : cellAt m o c ≡ plain 0 = ap (cell-of c) (getD-past (m .objects) o none ge) in
-        ⊎-elim
-          (λ same. rw same (ap (cell-of c) (object-new m k) ∙ fresh-cell k c) ∙ sym past)
-          (λ (other : o ≡ countOf m → ⊥). ap (cell-of c) (getD-past (m .objects ++ (fresh k ∷ [])) o none (rw (length-append (m .objects) (fresh k ∷ [])) (omega arith))) ∙ sym past)
-          (cases-eq o (countOf m)))
-      (cases-lt o (countOf m))
+    (λ lt. ap (cell-of c) (getD-append-left (m .objects) (fresh k ∷ []) none o lt))
+    (λ ge.
+    let past : cellAt m o c ≡ plain 0 = ap (cell-of c) (getD-past (m .objects) o none ge) in
+    ⊎-elim
+    (λ same. rw same (ap (cell-of c) (object-new m k) ∙ fresh-cell k c) ∙ sym past)
+    (λ (other : o ≡ countOf m → ⊥). ap (cell-of c) (getD-past (m .objects ++ (fresh k ∷ [])) o none (rw (length-append (m .objects) (fresh k ∷ [])) (omega arith))) ∙ sym past)
+    (cases-eq o (countOf m)))
+    (cases-lt o (countOf m))
 
 cell-call : (m : Store) (x : Call) (o c : ℕ) → names o c x ≡ false → cellAt (afterCall m x) o c ≡ cellAt m o c
 cell-call m (Add k) o c h = after-add (λ n. cellAt n o c ≡ cellAt m o c) m k (λ a b. cell-grown m k o c) refl
@@ -148,8 +145,8 @@ marked-call m (Exchange p d e w k) o c t h = by (eqb o p && eqb c d) refl
         let cd = eqb-true c d (both .1) in
         let here : cellAt m p d .mark ≡ true = rw (op, cd) at t in
         after-exchange (λ n. cellAt n o c ≡ cellAt m o c) m p d e w k
-          (λ a b. let un : not (cellAt m p d .mark) ≡ true = and-parts (not (cellAt m p d .mark)) (eqb (cellAt m p d .word) e) b .0 in
-            absurd (both-ways (not (cellAt m p d .mark)) (ap not here) un)) refl
+        (λ a b. let un : not (cellAt m p d .mark) ≡ true = and-parts (not (cellAt m p d .mark)) (eqb (cellAt m p d .word) e) b .0 in
+        absurd (both-ways (not (cellAt m p d .mark)) (ap not here) un)) refl
 
 -- whole objects
 
@@ -162,34 +159,34 @@ fresh-whole k h = record { struct = h; eight = refl; words = λ c. rw (fresh-cel
 whole-grown : (m : Store) (k : ℕ) → k ≤ 15 → All-whole m → All-whole (withObject m k)
 whole-grown m k h all o lt =
     ⊎-elim
-      (λ old. rw (getD-append-left (m .objects) (fresh k ∷ []) none o old) (all o old))
-      (λ ge. let e : o ≡ countOf m = omega (arith, length-append (m .objects) (fresh k ∷ [])) in rw (e, object-new m k) (fresh-whole k h))
-      (cases-lt o (countOf m))
+    (λ old. rw (getD-append-left (m .objects) (fresh k ∷ []) none o old) (all o old))
+    (λ ge. let e : o ≡ countOf m = omega (arith, length-append (m .objects) (fresh k ∷ [])) in rw (e, object-new m k) (fresh-whole k h))
+    (cases-lt o (countOf m))
 
 cell-whole : (x : Object) (d : ℕ) (v : Cell) → v .word < 2 ^ 31 → Whole x → Whole (record { kind = x .kind; cells = set (x .cells) d v })
 cell-whole x d v h wh = record {
-    struct = wh .struct;
-    eight = length-set (x .cells) d v ∙ wh .eight;
-    words = λ c. ⊎-elim
+  struct = wh .struct;
+  eight = length-set (x .cells) d v ∙ wh .eight;
+  words = λ c. ⊎-elim
       (λ lt. ⊎-elim
-        (λ same. let e : getD (set (x .cells) d v) c (plain 0) ≡ v = ap (λ (i : ℕ). getD (set (x .cells) d v) i (plain 0)) same ∙ getD-set-same (x .cells) d v (plain 0) lt in rw e h)
-        (λ other. rw (getD-set-other (x .cells) d c v (plain 0) other) (wh .words c))
-        (cases-eq c d))
+      (λ same. let e : getD (set (x .cells) d v) c (plain 0) ≡ v = ap (λ (i : ℕ). getD (set (x .cells) d v) i (plain 0)) same ∙ getD-set-same (x .cells) d v (plain 0) lt in rw e h)
+      (λ other. rw (getD-set-other (x .cells) d c v (plain 0) other) (wh .words c))
+      (cases-eq c d))
       (λ past. rw (set-past (x .cells) d v past) (wh .words c))
-      (cases-lt d (length (x .cells)))
-  }
+      (cases-lt d (length (x .cells)));
+}
 
 whole-with : (m : Store) (p d : ℕ) (v : Cell) → v .word < 2 ^ 31 → All-whole m → All-whole (withCell m p d v)
 whole-with m p d v h all o lt =
     let y : Object = record { kind = objectAt m p .kind; cells = set (objectAt m p .cells) d v } in
     let in-m : o < countOf m = omega (arith, length-set (m .objects) p y) in
     ⊎-elim
-      (λ (same : o ≡ p).
-        let in-p : p < countOf m = omega arith in
-        let e : getD (set (m .objects) p y) o none ≡ y = ap (λ (i : ℕ). getD (set (m .objects) p y) i none) same ∙ getD-set-same (m .objects) p y none in-p in
-        rw e (cell-whole (objectAt m p) d v h (all p in-p)))
-      (λ other. rw (getD-set-other (m .objects) p o y none other) (all o in-m))
-      (cases-eq o p)
+    (λ (same : o ≡ p).
+    let in-p : p < countOf m = omega arith in
+    let e : getD (set (m .objects) p y) o none ≡ y = ap (λ (i : ℕ). getD (set (m .objects) p y) i none) same ∙ getD-set-same (m .objects) p y none in-p in
+    rw e (cell-whole (objectAt m p) d v h (all p in-p)))
+    (λ other. rw (getD-set-other (m .objects) p o y none other) (all o in-m))
+    (cases-eq o p)
 
 whole-call : (m : Store) (x : Call) → All-whole m → All-whole (afterCall m x)
 whole-call m (Add k) all = after-add All-whole m k (λ a b. whole-grown m k a all) all
@@ -211,8 +208,8 @@ calls-keep m (x ∷ xs) =
       kinds = rest .kinds ∙ shown-call m x (asked xs);
       cells = λ o c h. let apart = or-parts (names o c x) (anyOf (names o c) xs) h in rest .cells o c (apart .1) ∙ cell-call m x o c (apart .0);
       marked = λ o c t h.
-        let apart = or-parts (storesTo o c x) (anyOf (storesTo o c) xs) h in
-        let kept = marked-call m x o c t (apart .0) in
-        rest .marked o c (ap (λ (v : Cell). v .mark) kept ∙ t) (apart .1) ∙ kept;
-      whole = λ all. rest .whole (whole-call m x all)
+          let apart = or-parts (storesTo o c x) (anyOf (storesTo o c) xs) h in
+          let kept = marked-call m x o c t (apart .0) in
+          rest .marked o c (ap (λ (v : Cell). v .mark) kept ∙ t) (apart .1) ∙ kept;
+      whole = λ all. rest .whole (whole-call m x all);
     }

@@ -1,7 +1,7 @@
 -- The memory that a byte image is, and the place of each part of it in the bytes.
 use mathlib.Core.Path.{_≡_}
 use mathlib.Core.List.{List, map}
-use mathlib.Core.Bool.{Bool, cond}
+use mathlib.Core.Bool.{cond}
 use Prim.Native.Nat.{ℕ, zero, suc, _+_, _*_, _/_, _%_, _≤_, _<_, min}
 use denote.Ref.{now}
 use lib.ListN.{length}

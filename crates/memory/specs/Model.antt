@@ -45,7 +45,8 @@ withObject m k = record { capacity = m .capacity; objects = m .objects ++ (fresh
 abbrev pub withCell : Store → ℕ → ℕ → Cell → Store
 withCell m o c v = record {
   capacity = m .capacity;
-  objects = set (m .objects) o (record { kind = objectAt m o .kind; cells = set (objectAt m o .cells) c v }) }
+  objects = set (m .objects) o (record { kind = objectAt m o .kind; cells = set (objectAt m o .cells) c v });
+}
 
 abbrev pub hasObject : Store → ℕ → Bool
 hasObject m o = ltb o (countOf m)

@@ -70,6 +70,7 @@ impl<'a> ByteImage<'a> {
         &*self.bytes
     }
 
+    // `new` lets no more bytes in than the limit; with the bound this holds of every image.
     fn room(&self) -> usize
         ensures { λ r. ⌜ r ≡ roomIn (now (now (self .entry) .bytes)) ⌝ }
     {
@@ -145,7 +146,14 @@ pub impl Memory for ByteImage<'_> as ImageMemory {
         Ok(())
     }
 
-    fn exchange(&mut self, object: usize, cell: usize, expected: u32, word: u32, mark: bool) -> Result<bool, Fault> {
+    fn exchange(
+        &mut self,
+        object: usize,
+        cell: usize,
+        expected: u32,
+        word: u32,
+        mark: bool,
+    ) -> Result<bool, Fault> {
         present(object < self.held() && cell < 8 && expected < WORD_END && word < WORD_END)?;
         let old = self.cell(object, cell);
         let yes = !old.mark && old.word == expected;

@@ -56,7 +56,14 @@ pub trait Memory {
         ensures after { λ r. ⌜ model (now (self .exit)) ≡ afterStore (model (now (self .entry))) object cell word ⌝ };
 
     // Writes word and mark where the cell is unmarked and holds the expected word, and says whether it did.
-    fn exchange(&mut self, object: usize, cell: usize, expected: u32, word: u32, mark: bool) -> Result<bool, Fault>
+    fn exchange(
+        &mut self,
+        object: usize,
+        cell: usize,
+        expected: u32,
+        word: u32,
+        mark: bool,
+    ) -> Result<bool, Fault>
         ensures value { λ r. ⌜ r ≡ exchangeOf (model (now (self .entry))) object cell expected word ⌝ }
         ensures after { λ r. ⌜ model (now (self .exit)) ≡ afterExchange (model (now (self .entry))) object cell expected word mark ⌝ };
 }

@@ -1,6 +1,5 @@
 // A memory that is a table of object records, over a slice that its caller lends.
 ghost use mathlib.Core.Path.{_≡_};
-ghost use Prim.Native.Nat.{_≤_};
 ghost use denote.Ref.{now};
 ghost use lib.ListN.{length};
 ghost use Rattle.std.specs.Vec.{made};
@@ -33,6 +32,7 @@ impl<'a> ObjectTable<'a> {
         Ok(ObjectTable { objects, count: 0 })
     }
 
+    // `new` lets no more records in than the limit; with the bound this holds of every table.
     fn room(&self) -> usize
         ensures { λ r. ⌜ r ≡ tableRoom (now (self .entry)) ⌝ }
     {
@@ -90,7 +90,14 @@ pub impl Memory for ObjectTable<'_> as TableMemory {
         Ok(())
     }
 
-    fn exchange(&mut self, object: usize, cell: usize, expected: u32, word: u32, mark: bool) -> Result<bool, Fault> {
+    fn exchange(
+        &mut self,
+        object: usize,
+        cell: usize,
+        expected: u32,
+        word: u32,
+        mark: bool,
+    ) -> Result<bool, Fault> {
         present(object < self.held() && cell < 8 && expected < WORD_END && word < WORD_END)?;
         let old = self.objects[object].cells[cell];
         let yes = !old.mark && old.word == expected;

@@ -25,7 +25,7 @@ use Rattle.table.specs.declared.records.Test.{Test}
 use Rattle.table.specs.Faults.{Passes, need, each, _>>=_}
 use Rattle.table.specs.Types.{keeps, field-keeps, set-fits, may-withhold, is-number, is-pristine, is-var, is-val, is-once, is-spec}
 use Rattle.table.specs.Records.{Op, New, Null, Int, Share, Own, Get, Take, Set, Add, Call, Fork, Return, Again, Join, Emit, operand, pick, op-of, asked-by, test-of, number-of, fits, form-of, slot-byte, decoded}
-use Rattle.table.specs.Program.{Function, Program, both, byte, struct-count, function-count, type-at, field-count, field-place, field-at, param-count, param-place, record-count, record-place, record-at, struct-place, struct-at, function-at, function-place, contents, struct-fits, function-fits, header, sections, structs, functions, field-types, function-types, entry, program}
+use Rattle.table.specs.Program.{Function, Program, both, byte, struct-count, function-count, type-at, field-count, field-place, field-at, param-count, param-place, record-count, record-place, record-at, struct-place, struct-at, function-at, function-place, contents, struct-total, field-total, function-total, param-total, record-total, struct-fits, function-fits, header, sections, structs, functions, field-types, function-types, entry, program}
 use Rattle.table.proofs.Listing.{length-listing, getD-listing, each-at}
 use Rattle.table.proofs.Each.{ok-then, need-true, each-need, listing-all}
 use Rattle.rules.specs.Rules.{no-field, no-function}
@@ -207,49 +207,49 @@ module _ (b : List ℕ) (o : Opened b) where
   -- what holds of every field that the table has holds of each that is read
   pub every-field : (P : Field → Type 0) → ((f : Field) → field-keeps ss f ≡ true → P f) → P no-field → (s f : ℕ) → P (getD (getD ss s []) f no-field)
   every-field P h k s =
-      listing-all (λ fs. (f : ℕ) → P (getD fs f no-field)) [] (struct-count b) (struct-at b)
-      (λ i l. listing-all P no-field (field-count b i) (field-at b i) (λ f m. h (field-at b i f) (o .field-fits i l f m)) k)
+      listing-all (λ fs. (f : ℕ) → P (getD fs f no-field)) [] (struct-total b) (struct-at b)
+      (λ i l. listing-all P no-field (field-total b i) (field-at b i) (λ f m. h (field-at b i f) (o .field-fits i (omega arith) f (omega arith))) k)
       (λ f. k) s
 
-  pub every-function : (P : Function → Type 0) → ((n : ℕ) → n < function-count b → P (function-at b n)) → P no-function → (n : ℕ) → P (getD (contents b .functions) n no-function)
-  every-function P h k n = listing-all P no-function (function-count b) (function-at b) h k n
+  pub every-function : (P : Function → Type 0) → ((n : ℕ) → n < function-total b → P (function-at b n)) → P no-function → (n : ℕ) → P (getD (contents b .functions) n no-function)
+  every-function P h k n = listing-all P no-function (function-total b) (function-at b) h k n
 
   pub contents-formed : Formed (contents b)
   contents-formed = record {
     fields = every-field Sound (field-sound ss) no-field-sound;
     field-types = every-field (λ f. keeps ss (f .ty) ≡ true) (λ f h. field-parts ss f h .0) refl;
     params = every-function (λ fn. All-keep ss (fn .params))
-        (λ n l. counted-keep ss (λ i. type-at b (param-place b n i)) 0 (param-count b n) (λ i m. o .types-fit n l i (omega arith))) tt;
-    results = every-function (λ fn. keeps ss (fn .result) ≡ true) (λ n l. o .types-fit n l (param-count b n) (omega arith)) refl;
+        (λ n l. counted-keep ss (λ i. type-at b (param-place b n i)) 0 (param-total b n) (λ i m. o .types-fit n (omega arith) i (omega arith))) tt;
+    results = every-function (λ fn. keeps ss (fn .result) ≡ true) (λ n l. o .types-fit n (omega arith) (param-count b n) (omega arith)) refl;
     few = every-function (λ fn. length (fn .params) ≤ 4)
-        (λ n l. let e = length-listing (param-count b n) (λ i. type-at b (param-place b n i)) in omega (arith, o .filled n l .0)) (omega arith);
+        (λ n l. let e = length-listing (param-total b n) (λ i. type-at b (param-place b n i)) in omega arith) (omega arith);
     alone =
-        ap (λ fn. length (fn .params)) (getD-listing (function-count b) (function-at b) 0 no-function (o .function-some))
-        ∙ length-listing (param-count b 0) (λ i. type-at b (param-place b 0 i)) ∙ o .first-bare;
+        ap (λ fn. length (fn .params)) (getD-listing (function-total b) (function-at b) 0 no-function (let e = o .function-some in omega arith))
+        ∙ length-listing (param-total b 0) (λ i. type-at b (param-place b 0 i)) ∙ (let e = o .first-bare in omega arith);
   }
 
   pub contents-shaped : Shaped (contents b)
   contents-shaped =
       let narrow : (s : ℕ) → length (getD ss s []) ≤ 8 =
-      listing-all (λ fs. length fs ≤ 8) [] (struct-count b) (struct-at b)
-      (λ s l. let e = length-listing (field-count b s) (field-at b s) in omega (arith, o .fields-few s l)) (omega arith)
+      listing-all (λ fs. length fs ≤ 8) [] (struct-total b) (struct-at b)
+      (λ s l. let e = length-listing (field-total b s) (field-at b s) in omega arith) (omega arith)
       in
-      let named : length ss ≤ 16 = (let e = length-listing (struct-count b) (struct-at b) in omega (arith, o .struct-low)) in
-      let size = length-listing (function-count b) (function-at b) in
+      let named : length ss ≤ 16 = (let e = length-listing (struct-total b) (struct-at b) in omega arith) in
+      let size = length-listing (function-total b) (function-at b) in
       record {
         named = named;
         narrow = narrow;
         bare = every-field (λ f. f .ty .withheld ≡ 0) (λ f h. field-parts ss f h .2) refl;
         main = omega (arith, o .function-some);
-        called = omega (arith, o .function-low);
+        called = omega arith;
         begins = λ n l.
-            let m : n < function-count b = omega arith in
-            subst⁻¹ (λ (fn : Function). 0 < length (fn .records)) (getD-listing (function-count b) (function-at b) n no-function m)
-            (let e = length-listing (record-count b n) (record-at b n) in omega (arith, o .filled n m .1));
+            let m : n < function-total b = omega arith in
+            subst⁻¹ (λ (fn : Function). 0 < length (fn .records)) (getD-listing (function-total b) (function-at b) n no-function m)
+            (let e = length-listing (record-total b n) (record-at b n) in omega (arith, o .filled n (omega arith) .1));
         short = every-function (λ fn. length (fn .records) ≤ 255)
-            (λ n l. let e = length-listing (record-count b n) (record-at b n) in omega (arith, o .filled n l .2)) (omega arith);
+            (λ n l. let e = length-listing (record-total b n) (record-at b n) in omega arith) (omega arith);
         wide = every-function (λ fn. (i : ℕ) → Wide (getD (fn .records) i None))
-            (λ n l. listing-all Wide None (record-count b n) (record-at b n) (λ i m. decoded-wide (take 12 (drop (record-place b n i) b))) tt) (λ i. tt);
+            (λ n l. listing-all Wide None (record-total b n) (record-at b n) (λ i m. decoded-wide (take 12 (drop (record-place b n i) b))) tt) (λ i. tt);
         small = keeps-small ss named narrow;
       }
 

@@ -19,7 +19,9 @@ use Rattle.table.specs.Records.{Op, New, Null, Int, Share, Own, Get, Take, Set,
 use Rattle.table.specs.Program.{Function, Program, both}
 use Rattle.rules.specs.Rules.{Premise, first, premises, asks, bound, yes-types}
 use Rattle.rules.specs.Scopes.{Shape, Plain, Last, Joins, Asks, shape, grown, settled, read, start, bodies}
-use Rattle.rules.specs.Scan.{Sort, Body, In-yes, In-no, fitting, judge, follow, follow-of, scan, Numbers-stand}
+use Rattle.rules.specs.declared.parts.Sort.{Sort}
+use Rattle.rules.specs.declared.parts.Sort.the-variants.{InBody, InYes, InNo}
+use Rattle.rules.specs.Scan.{fitting, judge, follow, follow-of, scan, Numbers-stand}
 use Rattle.rules.proofs.Scan.{scan-stands}
 
 abbrev numbered : List Premise → Bool
@@ -99,9 +101,9 @@ module _ (p : Program) (fn : Function) (k : ℕ) where
       by go zs Last = go l (suc i) zs q rs
       by go zs (Joins n) = go l (suc i) zs q rs
       by go zs (Asks t a b) =
-          low-then (scan p fn k f (l - 1) (suc i) (yes-types p fn ts t) (In-yes b) (take a rs)) _ (go (l - 1) (suc i) (yes-types p fn ts t) (In-yes b) (take a rs))
-          (low-then (scan p fn k f (l - 1) (suc i + a) ts In-no (take b (drop a rs))) (scan p fn k f l (suc i + a + b) ts q (drop (a + b) rs))
-          (go (l - 1) (suc i + a) ts In-no (take b (drop a rs)))
+          low-then (scan p fn k f (l - 1) (suc i) (yes-types p fn ts t) (InYes b) (take a rs)) _ (go (l - 1) (suc i) (yes-types p fn ts t) (InYes b) (take a rs))
+          (low-then (scan p fn k f (l - 1) (suc i + a) ts InNo (take b (drop a rs))) (scan p fn k f l (suc i + a + b) ts q (drop (a + b) rs))
+          (go (l - 1) (suc i + a) ts InNo (take b (drop a rs)))
           (go l (suc i + a + b) ts q (drop (a + b) rs)))
 
       of-op : ((m j : ℕ) (us : List Ty) (s : Sort) (xs : List (Option Op)) → Low (scan p fn k f m j us s xs)) → (o : Option Op) → Low (follow-of p fn k (scan p fn k f) l i ts q o rs)
@@ -109,7 +111,7 @@ module _ (p : Program) (fn : Function) (k : ℕ) where
       of-op go (Some op) = by go (grown ts (bound p fn ts op)) (shape op)
 
   pub read-low : Low (read p fn k 0 (start p fn) (fn .records))
-  read-low = subst⁻¹ Low (scan-stands p fn k (suc (length (fn .records))) (omega arith)) (scan-low (suc (length (fn .records))) 7 0 (fn .params) Body (fn .records))
+  read-low = subst⁻¹ Low (scan-stands p fn k (suc (length (fn .records))) (omega arith)) (scan-low (suc (length (fn .records))) 7 0 (fn .params) InBody (fn .records))
 
 pub bodies-low : (p : Program) (k : ℕ) (fs : List Function) → Low (bodies p k fs)
 bodies-low p k [] = tt

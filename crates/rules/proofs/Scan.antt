@@ -20,7 +20,9 @@ use Rattle.table.specs.Records.{Op}
 use Rattle.table.specs.Program.{Function, Program}
 use Rattle.rules.specs.Rules.{Premise, first, premises, bound, yes-types}
 use Rattle.rules.specs.Scopes.{Block, Yes, No, state, end-of, depth, in-no, in-yes, placed, close, Shape, Plain, Last, Joins, Asks, shape, grown, move, asked, refusal, after, settled, read, start}
-use Rattle.rules.specs.Scan.{Sort, sort-of, is-no, is-yes, fitting, judge, test-by, follow, follow-of, scan, Scan-stands}
+use Rattle.rules.specs.declared.parts.Sort.{Sort}
+use Rattle.rules.specs.declared.parts.Sort.the-variants.{InBody}
+use Rattle.rules.specs.Scan.{sort-of, is-no, is-yes, fitting, judge, test-by, follow, follow-of, scan, Scan-stands}
 use Rattle.rules.proofs.Steps.{first-append, first-cons}
 use Rattle.rules.proofs.Blocks.{close-stays, close-no, close-yes, close-turn}
 
@@ -249,4 +251,4 @@ module _ (p : Program) (fn : Function) (k : ℕ) where
 pub scan-stands : Scan-stands
 scan-stands p fn k f h =
     let a = reads p fn k f 0 7 (fn .params) [] (fn .records) [] h (record { ends = omega arith; levels = refl; deep = omega arith; tail = refl }) in
-    ap (λ l. read p fn k 0 (start p fn) l) (sym (append-nil (fn .records))) ∙ a ∙ then-done (scan p fn k f 7 0 (fn .params) Rattle.rules.specs.Scan.Body (fn .records))
+    ap (λ l. read p fn k 0 (start p fn) l) (sym (append-nil (fn .records))) ∙ a ∙ then-done (scan p fn k f 7 0 (fn .params) InBody (fn .records))

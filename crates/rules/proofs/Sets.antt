@@ -3,14 +3,14 @@ use mathlib.Core.Path.{_≡_, refl, sym, ap, _∙_, subst, subst⁻¹}
 use mathlib.Core.Bool.{Bool, true, false, cond, not, _&&_, _||_}
 use mathlib.Core.List.{[]}
 use mathlib.Core.Logic.{_⊎_, inl, inr}
-use Prim.Native.Nat.{ℕ, zero, suc, _-_, _<_, _/_, _%_, _^_}
-use native.Mathlib.Nat.{div-one, zero-div, mul-div-cancel, pow-suc}
+use Prim.Native.Nat.{ℕ, zero, suc, _-_, _<_, _≤_, _/_, _%_, _^_}
+use native.Mathlib.Nat.{div-one, zero-div, mul-div-cancel, pow-suc, div-eq-of-lt}
 use native.Mathlib.Numerals.{one-add}
 use native.Mathlib.Omega.{arith}
 use lib.Dec.{eqb, eqb·suc-suc}
 use lib.Arith.{bin-ind}
 use lib.Bits.{bitAnd, bitOr, and-shr, and-mod, or-shr, or-mod}
-use lib.Pow.{shr-shr}
+use lib.Pow.{shr-shr, pow-mono}
 use Rattle.std.proofs.shelf.Tests.{eqb-true, eqb-false, eq-eqb, ne-eqb, and-parts, and-from, and-right, or-cases, or-right, not-true, cases-eq}
 use Rattle.rules.specs.Rules.{has, with, without, part}
 use Rattle.rules.specs.Blocks.{Within}
@@ -124,3 +124,16 @@ none-set = bin-ind (λ m. ((g : ℕ) → has m g ≡ false) → m ≡ 0) (λ h. 
     let a : m / 2 ≡ 0 = go (λ g. has-half m g ∙ h (suc g)) in
     let b : m % 2 ≡ 1 → ⊥ = eqb-false (m % 2) 1 (sym (has-first m) ∙ h 0) in
     omega arith)
+
+-- no byte has a bit past the eighth
+pub has-high : (w f : ℕ) → w < 256 → 8 ≤ f → has w f ≡ false
+has-high w f l h =
+    let big : 256 ≤ 2 ^ f = pow-mono {i = 8} {j = f} h in
+    let low : w < 2 ^ f = omega arith in
+    let none : w / 2 ^ f ≡ 0 = div-eq-of-lt low in
+    ap (λ n. eqb (n % 2) 1) none
+
+pub alone-high : (w f : ℕ) → w < 256 → 8 ≤ f → eqb w (2 ^ f) ≡ false
+alone-high w f l h =
+    let big : 256 ≤ 2 ^ f = pow-mono {i = 8} {j = f} h in
+    ne-eqb w (2 ^ f) (λ e. omega arith)

@@ -1,8 +1,13 @@
 pub mod Rules
+pub mod Seen
+pub mod Scoped
 pub mod Scopes
 pub mod Formed
 pub mod Laws
 pub mod Blocks
 pub mod Scan
+pub mod Parts
+pub mod Checked
+pub mod Walk
 pub mod Examples
 pub mod Trials

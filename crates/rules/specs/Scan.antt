@@ -5,37 +5,37 @@ use mathlib.Core.List.{List, [], _∷_, _++_}
 use Prim.Native.Nat.{ℕ, zero, suc, _+_, _-_, _≤_, _<_}
 use lib.Dec.{leb, ltb, eqb}
 use lib.ListN.{length, take, drop}
+use Rattle.std.specs.declared.result.Result.{Result}
 use Rattle.std.specs.declared.result.Result.the-variants.{Ok, Err}
 use Rattle.std.specs.declared.option.Option.{Option}
 use Rattle.std.specs.declared.option.Option.the-variants.{Some, None}
+use Rattle.table.specs.declared.fault.Place.the-variants.{Record}
 use Rattle.table.specs.declared.fault.Fault.{Fault}
 use Rattle.table.specs.declared.types.Ty.{Ty}
 use Rattle.table.specs.declared.records.Test.{Test}
-use Rattle.table.specs.Faults.{_>>=_, Passes}
+use Rattle.table.specs.Faults.{fault, _>>=_, Passes}
 use Rattle.table.specs.Records.{Op}
 use Rattle.table.specs.Program.{Function, Program}
+use Rattle.rules.specs.declared.parts.Sort.{Sort}
+use Rattle.rules.specs.declared.parts.Sort.the-variants.{InBody, InYes, InNo}
 use Rattle.rules.specs.Rules.{first, premises, bound, yes-types}
 use Rattle.rules.specs.Scopes.{Block, Yes, No, Shape, Plain, Last, Joins, Asks, shape, grown, settled, read, start, verdict}
 
--- the sort of a block: a body, a yes block with the count of its no block, or a no block
-pub data Sort : Type 0 where
-  Body In-no : Sort
-  In-yes : (count : ℕ) → Sort
-
+-- a body, a yes block with the count of its no block, or a no block
 abbrev pub sort-of : List Block → Sort
-sort-of [] = Body
-sort-of (Yes k e s ∷ bs) = In-yes k
-sort-of (No e s ∷ bs) = In-no
+sort-of [] = InBody
+sort-of (Yes k e s ∷ bs) = InYes k
+sort-of (No e s ∷ bs) = InNo
 
 abbrev pub is-no : Sort → Bool
-is-no Body = false
-is-no In-no = true
-is-no (In-yes k) = false
+is-no InBody = false
+is-no InNo = true
+is-no (InYes k) = false
 
 abbrev pub is-yes : ℕ → Sort → Bool
-is-yes n Body = false
-is-yes n In-no = false
-is-yes n (In-yes k) = eqb n k
+is-yes n InBody = false
+is-yes n InNo = false
+is-yes n (InYes k) = eqb n k
 
 -- a record may stand before so many more of its block, with so many levels left below
 abbrev pub fitting : ℕ → ℕ → Sort → Shape → Bool
@@ -56,8 +56,8 @@ module _ (p : Program) (fn : Function) (k : ℕ) where
   -- a test: its yes block, its no block, and what comes behind them
   abbrev pub test-by : Scanner → ℕ → ℕ → List Ty → Sort → Test → ℕ → ℕ → List (Option Op) → Passes
   test-by go levels i ts q t a b rs =
-      go (levels - 1) (suc i) (yes-types p fn ts t) (In-yes b) (take a rs) >>= λ _.
-      (go (levels - 1) (suc i + a) ts In-no (take b (drop a rs)) >>= λ _.
+      go (levels - 1) (suc i) (yes-types p fn ts t) (InYes b) (take a rs) >>= λ _.
+      (go (levels - 1) (suc i + a) ts InNo (take b (drop a rs)) >>= λ _.
       go levels (suc i + a + b) ts q (drop (a + b) rs))
 
   abbrev pub follow : Scanner → ℕ → ℕ → List Ty → List Ty → Sort → Shape → List (Option Op) → Passes
@@ -79,8 +79,13 @@ module _ (p : Program) (fn : Function) (k : ℕ) where
   scan zero levels i ts q rs = Ok tt
   scan (suc f) levels i ts q rs = scan-by (scan f) levels i ts q rs
 
+  -- the record that comes next, if it is not refused
+  abbrev pub judged-of : ℕ → ℕ → Sort → List Ty → ℕ → Option Op → Result Op Fault
+  judged-of levels left q ts i None = Err (fault 20 (Record k i))
+  judged-of levels left q ts i (Some op) = settled (judge levels left q ts (Some op)) k i >>= λ _. Ok op
+
 abbrev pub Scan-stands : Type 0
-Scan-stands = (p : Program) (fn : Function) (k f : ℕ) → length (fn .records) < f → read p fn k 0 (start p fn) (fn .records) ≡ scan p fn k f 7 0 (fn .params) Body (fn .records)
+Scan-stands = (p : Program) (fn : Function) (k f : ℕ) → length (fn .records) < f → read p fn k 0 (start p fn) (fn .records) ≡ scan p fn k f 7 0 (fn .params) InBody (fn .records)
 
 -- the rules refuse with the numbers 20 to 28: a test's blocks never leave other slots in scope
 abbrev pub Numbers-stand : Type 0

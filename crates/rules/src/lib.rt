@@ -1,77 +1,13 @@
-// The rules of a table, as theorems.
-ghost use Rattle.rules.specs.Examples.{Examples};
-ghost use Rattle.rules.specs.Trials.{Trials};
-ghost use Rattle.rules.specs.Laws.{Verdict-lawful};
-ghost use Rattle.rules.specs.Formed.{Program-stands};
-ghost use Rattle.rules.specs.Blocks.{Blocks-stand, Joins-stand, Types-stand, Fit-stands};
-ghost use Rattle.rules.specs.Scan.{Scan-stands, Numbers-stand};
+// The rules of a table's records, and the check that they are kept.
+mod body;
+mod checking;
+mod effects;
+mod flow;
+mod parts;
+mod premises;
+mod scope;
+pub mod theorems;
+mod walking;
 
-// The verdicts on tables that are given byte by byte, and three facts of flow.
-pub fn examples_stand() -> u8
-    ensures { λ _. ⌜ Examples ⌝ }
-{
-    0
-}
-
-// Verdicts on bodies where tests, blocks and withheld fields meet.
-pub fn trials_stand() -> u8
-    ensures { λ _. ⌜ Trials ⌝ }
-{
-    0
-}
-
-// A program is accepted exactly when each record satisfies all premises of its rule in the scope before it.
-pub fn lawful_stands() -> u8
-    ensures { λ _. ⌜ Verdict-lawful ⌝ }
-{
-    0
-}
-
-// A test's blocks end where it says, and all is as before it behind them.
-pub fn blocks_stand() -> u8
-    ensures { λ _. ⌜ Blocks-stand ⌝ }
-{
-    0
-}
-
-// A join ends a yes block, and leads behind its no block.
-pub fn joins_stand() -> u8
-    ensures { λ _. ⌜ Joins-stand ⌝ }
-{
-    0
-}
-
-// Types in scope only grow inside a block, and come back behind it.
-pub fn types_stand() -> u8
-    ensures { λ _. ⌜ Types-stand ⌝ }
-{
-    0
-}
-
-// The program of a table has types that keep their rules, and its parts are there and not too many.
-pub fn program_stands() -> u8
-    ensures { λ _. ⌜ Program-stands ⌝ }
-{
-    0
-}
-
-// The reading block by block gives the verdict of the reading record by record.
-pub fn scan_stands() -> u8
-    ensures { λ _. ⌜ Scan-stands ⌝ }
-{
-    0
-}
-
-// Every type in use keeps its rules, and scopes and levels keep their bounds.
-pub fn fit_stands() -> u8
-    ensures { λ _. ⌜ Fit-stands ⌝ }
-{
-    0
-}
-
-// The rules refuse with the numbers 20 to 28.
-pub fn numbers_stand() -> u8
-    ensures { λ _. ⌜ Numbers-stand ⌝ }
-{
-    0
-}
+pub use checking::check;
+pub use walking::scope_before;

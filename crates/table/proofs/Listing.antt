@@ -43,8 +43,8 @@ pub each-stops : (n : ℕ) (at : ℕ → Passes) (i : ℕ) (e : Fault) → i < n
 each-stops zero at i e h p q = absurd (omega arith)
 each-stops (suc n) at i e h p q =
     elim (cases-lt i n) [
-      inl l ↦ ap (λ r. r >>= λ _. at n) (each-stops n at i e l p q)
-    | inr g ↦ let s : i ≡ n = omega arith in rw (← s) (ap (λ r. r >>= λ _. at i) p ∙ q)
+      | inl l ↦ ap (λ r. r >>= λ _. at n) (each-stops n at i e l p q)
+      | inr g ↦ let s : i ≡ n = omega arith in rw (← s) (ap (λ r. r >>= λ _. at i) p ∙ q)
     ]
 
 -- The turn, the refusal and the end of a loop that goes through the places.
@@ -65,7 +65,7 @@ each-at (suc n) at h i l = by (each n at) refl h (λ e m. each-at n at e i m)
     by : (r : Passes) → each n at ≡ r → (r >>= λ _. at n) ≡ Ok tt → (each n at ≡ Ok tt → i < n → at i ≡ Ok tt) → at i ≡ Ok tt
     by (Ok tt) e q before =
         elim (cases-lt i n) [
-          inl m ↦ before e m
-        | inr g ↦ let s : i ≡ n = omega arith in rw s q
+          | inl m ↦ before e m
+          | inr g ↦ let s : i ≡ n = omega arith in rw s q
         ]
     by (Err f) e q before = let z : _≡_ {A = ℕ} 0 1 = cc in absurd (omega arith)

@@ -15,78 +15,78 @@ use Rattle.std.specs.declared.result.Result.the-variants.{Ok, Err}
 use Rattle.table.specs.declared.view.Lacking.the-variants.{Missing}
 use Rattle.std.specs.declared.option.Option.{Option}
 use Rattle.table.specs.Records.{Op, decoded, form-of, fits, op-of, test-of, asked-by, number-of, slot-byte}
-use Rattle.table.specs.Program.{Function, contents, struct-count, struct-at, field-count, field-at, function-count, function-at, param-count, param-place, result-place, record-count, record-at, type-at, byte, struct-place, record-place}
+use Rattle.table.specs.Program.{Function, contents, struct-total, struct-at, field-total, field-at, function-total, function-at, param-total, param-place, result-place, record-total, record-at, type-at, byte, struct-place, record-place}
 use Rattle.table.specs.Reading.{no-function, fields-of, function-of, field-of, param-of, result-of, present, record-of}
 use Rattle.table.proofs.Listing.{length-listing, getD-listing, lacks-listing, nth-listing, past-listing}
 
-pub struct-read : (b : List ℕ) (s : ℕ) → s < struct-count b → fields-of (contents b) s ≡ struct-at b s
-struct-read b s h = getD-listing (struct-count b) (struct-at b) s [] h
+pub struct-read : (b : List ℕ) (s : ℕ) → s < struct-total b → fields-of (contents b) s ≡ struct-at b s
+struct-read b s h = getD-listing (struct-total b) (struct-at b) s [] h
 
-pub struct-lacks : (b : List ℕ) (s : ℕ) → struct-count b ≤ s → fields-of (contents b) s ≡ []
-struct-lacks b s h = lacks-listing (struct-count b) (struct-at b) s [] h
+pub struct-lacks : (b : List ℕ) (s : ℕ) → struct-total b ≤ s → fields-of (contents b) s ≡ []
+struct-lacks b s h = lacks-listing (struct-total b) (struct-at b) s [] h
 
-pub function-read : (b : List ℕ) (n : ℕ) → n < function-count b → function-of (contents b) n ≡ function-at b n
-function-read b n h = getD-listing (function-count b) (function-at b) n no-function h
+pub function-read : (b : List ℕ) (n : ℕ) → n < function-total b → function-of (contents b) n ≡ function-at b n
+function-read b n h = getD-listing (function-total b) (function-at b) n no-function h
 
-pub function-lacks : (b : List ℕ) (n : ℕ) → function-count b ≤ n → function-of (contents b) n ≡ no-function
-function-lacks b n h = lacks-listing (function-count b) (function-at b) n no-function h
+pub function-lacks : (b : List ℕ) (n : ℕ) → function-total b ≤ n → function-of (contents b) n ≡ no-function
+function-lacks b n h = lacks-listing (function-total b) (function-at b) n no-function h
 
 -- counts
-pub field-counts : (b : List ℕ) (s : ℕ) → s < struct-count b → length (fields-of (contents b) s) ≡ field-count b s
-field-counts b s h = ap length (struct-read b s h) ∙ length-listing (field-count b s) (field-at b s)
+pub field-counts : (b : List ℕ) (s : ℕ) → s < struct-total b → length (fields-of (contents b) s) ≡ field-total b s
+field-counts b s h = ap length (struct-read b s h) ∙ length-listing (field-total b s) (field-at b s)
 
-pub no-fields : (b : List ℕ) (s : ℕ) → struct-count b ≤ s → length (fields-of (contents b) s) ≡ 0
+pub no-fields : (b : List ℕ) (s : ℕ) → struct-total b ≤ s → length (fields-of (contents b) s) ≡ 0
 no-fields b s h = ap length (struct-lacks b s h)
 
-pub param-counts : (b : List ℕ) (n : ℕ) → n < function-count b → length (function-of (contents b) n .params) ≡ param-count b n
-param-counts b n h = ap (λ fn. length (fn .params)) (function-read b n h) ∙ length-listing (param-count b n) (λ i. type-at b (param-place b n i))
+pub param-counts : (b : List ℕ) (n : ℕ) → n < function-total b → length (function-of (contents b) n .params) ≡ param-total b n
+param-counts b n h = ap (λ fn. length (fn .params)) (function-read b n h) ∙ length-listing (param-total b n) (λ i. type-at b (param-place b n i))
 
-pub no-params : (b : List ℕ) (n : ℕ) → function-count b ≤ n → length (function-of (contents b) n .params) ≡ 0
+pub no-params : (b : List ℕ) (n : ℕ) → function-total b ≤ n → length (function-of (contents b) n .params) ≡ 0
 no-params b n h = ap (λ fn. length (fn .params)) (function-lacks b n h)
 
-pub record-counts : (b : List ℕ) (n : ℕ) → n < function-count b → length (function-of (contents b) n .records) ≡ record-count b n
-record-counts b n h = ap (λ fn. length (fn .records)) (function-read b n h) ∙ length-listing (record-count b n) (record-at b n)
+pub record-counts : (b : List ℕ) (n : ℕ) → n < function-total b → length (function-of (contents b) n .records) ≡ record-total b n
+record-counts b n h = ap (λ fn. length (fn .records)) (function-read b n h) ∙ length-listing (record-total b n) (record-at b n)
 
-pub no-records : (b : List ℕ) (n : ℕ) → function-count b ≤ n → length (function-of (contents b) n .records) ≡ 0
+pub no-records : (b : List ℕ) (n : ℕ) → function-total b ≤ n → length (function-of (contents b) n .records) ≡ 0
 no-records b n h = ap (λ fn. length (fn .records)) (function-lacks b n h)
 
 -- what is at a place that there is
-pub field-read : (b : List ℕ) (s f : ℕ) → s < struct-count b → f < field-count b s → field-of (contents b) s f ≡ Some (field-at b s f)
-field-read b s f l k = ap (λ fs. nth fs f) (struct-read b s l) ∙ nth-listing (field-count b s) (field-at b s) f k
+pub field-read : (b : List ℕ) (s f : ℕ) → s < struct-total b → f < field-total b s → field-of (contents b) s f ≡ Some (field-at b s f)
+field-read b s f l k = ap (λ fs. nth fs f) (struct-read b s l) ∙ nth-listing (field-total b s) (field-at b s) f k
 
-pub param-read : (b : List ℕ) (n i : ℕ) → n < function-count b → i < param-count b n → param-of (contents b) n i ≡ Some (type-at b (param-place b n i))
-param-read b n i l k = ap (λ fn. nth (fn .params) i) (function-read b n l) ∙ nth-listing (param-count b n) (λ j. type-at b (param-place b n j)) i k
+pub param-read : (b : List ℕ) (n i : ℕ) → n < function-total b → i < param-total b n → param-of (contents b) n i ≡ Some (type-at b (param-place b n i))
+param-read b n i l k = ap (λ fn. nth (fn .params) i) (function-read b n l) ∙ nth-listing (param-total b n) (λ j. type-at b (param-place b n j)) i k
 
-pub result-read : (b : List ℕ) (n : ℕ) → n < function-count b → result-of (contents b) n ≡ Some (type-at b (result-place b n))
-result-read b n h = ap (mapped (λ fn. fn .result)) (nth-listing (function-count b) (function-at b) n h)
+pub result-read : (b : List ℕ) (n : ℕ) → n < function-total b → result-of (contents b) n ≡ Some (type-at b (result-place b n))
+result-read b n h = ap (mapped (λ fn. fn .result)) (nth-listing (function-total b) (function-at b) n h)
 
-pub record-read : (b : List ℕ) (n i : ℕ) → n < function-count b → i < record-count b n → record-of (contents b) n i ≡ present (Some (record-at b n i))
-record-read b n i l k = ap (λ fn. present (nth (fn .records) i)) (function-read b n l) ∙ ap present (nth-listing (record-count b n) (record-at b n) i k)
+pub record-read : (b : List ℕ) (n i : ℕ) → n < function-total b → i < record-total b n → record-of (contents b) n i ≡ present (Some (record-at b n i))
+record-read b n i l k = ap (λ fn. present (nth (fn .records) i)) (function-read b n l) ∙ ap present (nth-listing (record-total b n) (record-at b n) i k)
 
 -- and where there is none
-pub struct-lacks-field : (b : List ℕ) (s f : ℕ) → struct-count b ≤ s → field-of (contents b) s f ≡ None
+pub struct-lacks-field : (b : List ℕ) (s f : ℕ) → struct-total b ≤ s → field-of (contents b) s f ≡ None
 struct-lacks-field b s f h = ap (λ fs. nth fs f) (struct-lacks b s h)
 
-pub field-lacks : (b : List ℕ) (s f : ℕ) → s < struct-count b → field-count b s ≤ f → field-of (contents b) s f ≡ None
-field-lacks b s f l k = ap (λ fs. nth fs f) (struct-read b s l) ∙ past-listing (field-count b s) (field-at b s) f k
+pub field-lacks : (b : List ℕ) (s f : ℕ) → s < struct-total b → field-total b s ≤ f → field-of (contents b) s f ≡ None
+field-lacks b s f l k = ap (λ fs. nth fs f) (struct-read b s l) ∙ past-listing (field-total b s) (field-at b s) f k
 
-pub function-lacks-param : (b : List ℕ) (n i : ℕ) → function-count b ≤ n → param-of (contents b) n i ≡ None
+pub function-lacks-param : (b : List ℕ) (n i : ℕ) → function-total b ≤ n → param-of (contents b) n i ≡ None
 function-lacks-param b n i h = ap (λ fn. nth (fn .params) i) (function-lacks b n h)
 
-pub param-lacks : (b : List ℕ) (n i : ℕ) → n < function-count b → param-count b n ≤ i → param-of (contents b) n i ≡ None
-param-lacks b n i l k = ap (λ fn. nth (fn .params) i) (function-read b n l) ∙ past-listing (param-count b n) (λ j. type-at b (param-place b n j)) i k
+pub param-lacks : (b : List ℕ) (n i : ℕ) → n < function-total b → param-total b n ≤ i → param-of (contents b) n i ≡ None
+param-lacks b n i l k = ap (λ fn. nth (fn .params) i) (function-read b n l) ∙ past-listing (param-total b n) (λ j. type-at b (param-place b n j)) i k
 
-pub result-lacks : (b : List ℕ) (n : ℕ) → function-count b ≤ n → result-of (contents b) n ≡ None
-result-lacks b n h = ap (mapped (λ fn. fn .result)) (past-listing (function-count b) (function-at b) n h)
+pub result-lacks : (b : List ℕ) (n : ℕ) → function-total b ≤ n → result-of (contents b) n ≡ None
+result-lacks b n h = ap (mapped (λ fn. fn .result)) (past-listing (function-total b) (function-at b) n h)
 
-pub function-lacks-record : (b : List ℕ) (n i : ℕ) → function-count b ≤ n → record-of (contents b) n i ≡ Err Missing
+pub function-lacks-record : (b : List ℕ) (n i : ℕ) → function-total b ≤ n → record-of (contents b) n i ≡ Err Missing
 function-lacks-record b n i h = ap (λ fn. present (nth (fn .records) i)) (function-lacks b n h)
 
-pub record-lacks : (b : List ℕ) (n i : ℕ) → n < function-count b → record-count b n ≤ i → record-of (contents b) n i ≡ Err Missing
-record-lacks b n i l k = ap (λ fn. present (nth (fn .records) i)) (function-read b n l) ∙ ap present (past-listing (record-count b n) (record-at b n) i k)
+pub record-lacks : (b : List ℕ) (n i : ℕ) → n < function-total b → record-total b n ≤ i → record-of (contents b) n i ≡ Err Missing
+record-lacks b n i l k = ap (λ fn. present (nth (fn .records) i)) (function-read b n l) ∙ ap present (past-listing (record-total b n) (record-at b n) i k)
 
 -- what twelve bytes say is the record there
-pub record-said : (b : List ℕ) (n i place : ℕ) (o : Option Op) → n < function-count b → i < record-count b n → place ≡ record-place b n i → o ≡ decoded (take 12 (drop place b)) → present (Some o) ≡ record-of (contents b) n i
+pub record-said : (b : List ℕ) (n i place : ℕ) (o : Option Op) → n < function-total b → i < record-total b n → place ≡ record-place b n i → o ≡ decoded (take 12 (drop place b)) → present (Some o) ≡ record-of (contents b) n i
 record-said b n i place o l k e h = ap (λ x. present (Some x)) h ∙ ap (λ q. present (Some (decoded (take 12 (drop q b))))) e ∙ sym (record-read b n i l k)
 
 -- one struct on

@@ -12,7 +12,7 @@ use Rattle.table.specs.declared.types.Kind.{Kind}
 use Rattle.table.specs.declared.types.Field.{Field}
 use Rattle.table.specs.declared.types.Ty.{Ty}
 use Rattle.table.specs.Types.{may-withhold, set-fits, is-number, keeps}
-use Rattle.table.specs.Program.{listing, contents, struct-count, struct-at}
+use Rattle.table.specs.Program.{listing, contents, struct-total, struct-at}
 use Rattle.table.proofs.Listing.{length-listing, getD-listing}
 use Rattle.table.proofs.Reading.{struct-read}
 
@@ -44,18 +44,18 @@ set-passes k n at i m field all b h f inv e z =
     sym (sym inv ∙ set-more k n at i m h ∙ ap (λ x. x && set-fits k (drop (i + 1) (listing n at)) (m / 2)) s)
 
 -- a reference to a struct that is there, and to one that is not
-pub keeps-reference : (b : List ℕ) (t : Ty) (r : Bool) → t .barred ≡ 0 → is-number (t .kind) ≡ false → t .strukt < struct-count b
+pub keeps-reference : (b : List ℕ) (t : Ty) (r : Bool) → t .barred ≡ 0 → is-number (t .kind) ≡ false → t .strukt < struct-total b
     → r ≡ set-fits (t .kind) (struct-at b (t .strukt)) (t .withheld) → r ≡ keeps (contents b .structs) t
 keeps-reference b t r z k h e =
-    let n : length (contents b .structs) ≡ struct-count b = length-listing (struct-count b) (struct-at b) in
+    let n : length (contents b .structs) ≡ struct-total b = length-listing (struct-total b) (struct-at b) in
     let x : eqb (t .barred) 0 ≡ true = grind (arith, tells) in
     let y : ltb (t .strukt) (length (contents b .structs)) ≡ true = grind (arith, tells) in
     let g : getD (contents b .structs) (t .strukt) [] ≡ struct-at b (t .strukt) = struct-read b (t .strukt) h in
     rw (x, k, y, g) e
 
-pub lacks-struct : (b : List ℕ) (t : Ty) → t .barred ≡ 0 → is-number (t .kind) ≡ false → struct-count b ≤ t .strukt → false ≡ keeps (contents b .structs) t
+pub lacks-struct : (b : List ℕ) (t : Ty) → t .barred ≡ 0 → is-number (t .kind) ≡ false → struct-total b ≤ t .strukt → false ≡ keeps (contents b .structs) t
 lacks-struct b t z k h =
-    let n : length (contents b .structs) ≡ struct-count b = length-listing (struct-count b) (struct-at b) in
+    let n : length (contents b .structs) ≡ struct-total b = length-listing (struct-total b) (struct-at b) in
     let x : eqb (t .barred) 0 ≡ true = grind (arith, tells) in
     let y : ltb (t .strukt) (length (contents b .structs)) ≡ false = grind (arith, tells) in
     rw (x, k, y) refl

@@ -1,7 +1,7 @@
 -- The program that a table's bytes hold, and the refusals of a table that holds none.
 use mathlib.Core.Bool.{Bool, true, false, cond, not, _&&_, _||_}
 use mathlib.Core.List.{List, [], _∷_, map}
-use Prim.Native.Nat.{ℕ, zero, suc, _+_, _-_, _*_, _/_, _%_}
+use Prim.Native.Nat.{ℕ, zero, suc, _+_, _-_, _*_, _/_, _%_, min}
 use lib.Dec.{leb, ltb, eqb}
 use lib.ListN.{length, getD, take, drop}
 use denote.Ref.{now}
@@ -104,19 +104,35 @@ module _ (b : List ℕ) where
   abbrev pub record-at : ℕ → ℕ → Option Op
   record-at n i = decoded (take 12 (drop (record-place n i) b))
 
+  -- No table has more than these: what is past them is refused, and no part of what the bytes hold.
+  abbrev pub struct-total : ℕ
+  struct-total = min 16 struct-count
+
+  abbrev pub field-total : ℕ → ℕ
+  field-total s = min 8 (field-count s)
+
+  abbrev pub function-total : ℕ
+  function-total = min 32 function-count
+
+  abbrev pub param-total : ℕ → ℕ
+  param-total n = min 4 (param-count n)
+
+  abbrev pub record-total : ℕ → ℕ
+  record-total n = min 255 (record-count n)
+
   abbrev pub struct-at : ℕ → List Field
-  struct-at s = listing (field-count s) (field-at s)
+  struct-at s = listing (field-total s) (field-at s)
 
   abbrev pub function-at : ℕ → Function
   function-at n = record {
-      params = listing (param-count n) (λ i. type-at (param-place n i));
-      result = type-at (result-place n);
-      records = listing (record-count n) (record-at n);
-    }
+    params = listing (param-total n) (λ i. type-at (param-place n i));
+    result = type-at (result-place n);
+    records = listing (record-total n) (record-at n);
+  }
 
   -- what the bytes hold, if nothing is refused
   abbrev pub contents : Program
-  contents = record { structs = listing struct-count struct-at; functions = listing function-count function-at }
+  contents = record { structs = listing struct-total struct-at; functions = listing function-total function-at }
 
   -- 1 to 3: the length, the edition, the counts and byte 3
   abbrev pub header : Passes

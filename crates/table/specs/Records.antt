@@ -11,7 +11,7 @@ use Rattle.table.specs.declared.records.Test.{Test}
 use Rattle.table.specs.declared.records.Test.the-variants.{Nil, Same, Equal, Less, Link, Unlink, Swap, Try, Fix, Stable}
 use Rattle.table.specs.declared.records.Record.{Record}
 use Rattle.table.specs.declared.records.Record.the-variants as coded
-use Rattle.table.specs.declared.records.Form.{Form}
+use Rattle.table.specs.declared.forms.Form.{Form}
 
 -- z is the slot that a record binds, s a struct, n a function; a call holds its operand bytes behind n, and `again` all six
 pub data Op : Type 0 where
@@ -112,17 +112,17 @@ abbrev pub test-of : List ℕ → Option Test
 test-of b =
     let x = operand b 0 in
     pick (getD b 0 0) (
-      (16, Some (Nil x))
-      ∷ (17, Some (Same x (operand b 1)))
-      ∷ (18, Some (Equal x (operand b 1)))
-      ∷ (19, Some (Less x (operand b 1)))
-      ∷ (20, Some (Link x (operand b 1) (operand b 2) (operand b 3)))
-      ∷ (21, Some (Unlink x (operand b 1) (operand b 2) (operand b 3)))
-      ∷ (22, Some (Swap x (operand b 1) (operand b 2) (operand b 3)))
-      ∷ (23, Some (Try x (operand b 1) (operand b 2)))
-      ∷ (24, Some (Fix x (operand b 1) (operand b 2)))
-      ∷ (25, Some (Stable x (operand b 1)))
-      ∷ []) None
+    (16, Some (Nil x))
+    ∷ (17, Some (Same x (operand b 1)))
+    ∷ (18, Some (Equal x (operand b 1)))
+    ∷ (19, Some (Less x (operand b 1)))
+    ∷ (20, Some (Link x (operand b 1) (operand b 2) (operand b 3)))
+    ∷ (21, Some (Unlink x (operand b 1) (operand b 2) (operand b 3)))
+    ∷ (22, Some (Swap x (operand b 1) (operand b 2) (operand b 3)))
+    ∷ (23, Some (Try x (operand b 1) (operand b 2)))
+    ∷ (24, Some (Fix x (operand b 1) (operand b 2)))
+    ∷ (25, Some (Stable x (operand b 1)))
+    ∷ []) None
 
 -- the low 16 bits of a test's number count its yes block's records, the high 16 its no block's
 abbrev pub asked-by : ℕ → Option Test → Option Op
@@ -135,22 +135,22 @@ op-of b =
     let z = slot-byte b in
     let x = operand b 0 in
     pick (getD b 0 0) (
-      (1, Some (New z x))
-      ∷ (2, Some (Null z x))
-      ∷ (3, Some (Int z (number-of b)))
-      ∷ (4, Some (Share z x))
-      ∷ (5, Some (Own z x))
-      ∷ (6, Some (Get z x (operand b 1)))
-      ∷ (7, Some (Take z x (operand b 1)))
-      ∷ (8, Some (Set z x (operand b 1) (operand b 2)))
-      ∷ (9, Some (Add z x (operand b 1)))
-      ∷ (10, Some (Call z x (take 5 (drop 3 b))))
-      ∷ (11, Some (Fork x (take 5 (drop 3 b))))
-      ∷ (12, Some (Return x))
-      ∷ (13, Some (Again (take 6 (drop 2 b))))
-      ∷ (14, Some (Join (number-of b)))
-      ∷ (15, Some (Emit x))
-      ∷ []) None
+    (1, Some (New z x))
+    ∷ (2, Some (Null z x))
+    ∷ (3, Some (Int z (number-of b)))
+    ∷ (4, Some (Share z x))
+    ∷ (5, Some (Own z x))
+    ∷ (6, Some (Get z x (operand b 1)))
+    ∷ (7, Some (Take z x (operand b 1)))
+    ∷ (8, Some (Set z x (operand b 1) (operand b 2)))
+    ∷ (9, Some (Add z x (operand b 1)))
+    ∷ (10, Some (Call z x (take 5 (drop 3 b))))
+    ∷ (11, Some (Fork x (take 5 (drop 3 b))))
+    ∷ (12, Some (Return x))
+    ∷ (13, Some (Again (take 6 (drop 2 b))))
+    ∷ (14, Some (Join (number-of b)))
+    ∷ (15, Some (Emit x))
+    ∷ []) None
 
 -- what twelve bytes say, or `None`: no such op, an unused byte that is not 0, or a number too large
 abbrev pub decoded : List ℕ → Option Op

@@ -4,7 +4,7 @@ ghost use mathlib.Core.Bool.{_||_};
 ghost use Prim.Native.Nat.{_%_, _<_, _≤_};
 ghost use lib.Dec.{eqb};
 ghost use Rattle.table.specs.Types.{may-withhold, set-fits, keeps, field-keeps};
-ghost use Rattle.table.specs.Program.{struct-at, struct-count};
+ghost use Rattle.table.specs.Program.{struct-at, struct-total};
 ghost use Rattle.table.specs.Reading.{bytes-of, program-of};
 use super::types::Field;
 use super::types::Kind;
@@ -31,11 +31,11 @@ fn first_fits(kind: Kind, field: Field, set: u8) -> bool
 
 // Whether a set withholds only what it may of a struct's fields.
 fn set_fits(table: &Table, kind: Kind, s: usize, set: u8) -> bool
-    requires { ⌜ s < struct-count (bytes-of (now table)) ⌝ ∗ ⌜ s ≤ 255 ⌝ }
+    requires { ⌜ s < struct-total (bytes-of (now table)) ⌝ ∗ ⌜ s ≤ 255 ⌝ }
     ensures { λ r. ⌜ r ≡ set-fits kind (struct-at (bytes-of (now (table .entry))) s) set ⌝ }
 {
     let mut rest = set;
-    for f in 0..table.field_count(s) {
+    for f in 0..table.field_total(s) {
         if !first_fits(kind, table.field_at(s, f), rest) {
             return false;
         }
@@ -54,7 +54,7 @@ pub fn keeps_rules(table: &Table, ty: Ty) -> bool
         return ty.strukt == 0 && ty.withheld == 0;
     }
     let s = ty.strukt as usize;
-    if s >= table.struct_count() {
+    if s >= table.struct_total() {
         return false;
     }
     set_fits(table, ty.kind, s, ty.withheld)
@@ -66,5 +66,8 @@ pub fn field_keeps_rules(table: &Table, field: Field) -> bool
 {
     let kind = field.ty.kind;
     let plain = field.mode.is_var() || field.mode.is_val();
-    keeps_rules(table, field.ty) && !kind.is_pristine() && field.ty.withheld == 0 && (plain || !kind.is_number())
+    keeps_rules(table, field.ty)
+        && !kind.is_pristine()
+        && field.ty.withheld == 0
+        && (plain || !kind.is_number())
 }

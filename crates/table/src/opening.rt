@@ -159,7 +159,11 @@ fn check_function(table: &Table, n: usize) -> Result<(), Fault>
     requires { ⌜ n ≤ 255 ⌝ }
     ensures { λ r. ⌜ r ≡ function-passes (bytes-of (now (table .entry))) n ⌝ }
 {
-    demand(function_fits(table, n), 6, Place::Byte(table.function_place(n)))
+    demand(
+        function_fits(table, n),
+        6,
+        Place::Byte(table.function_place(n)),
+    )
 }
 
 // A function has at most 4 parameters, and 1 to 255 records that fill its section.
@@ -234,5 +238,9 @@ fn check_type(table: &Table, n: usize, i: usize) -> Result<(), Fault>
 fn check_entry(table: &Table) -> Result<(), Fault>
     ensures { λ r. ⌜ r ≡ entry (bytes-of (now (table .entry))) ⌝ }
 {
-    demand(table.param_count(0) == 0, 8, Place::Byte(table.function_place(0)))
+    demand(
+        table.param_count(0) == 0,
+        8,
+        Place::Byte(table.function_place(0)),
+    )
 }

@@ -27,7 +27,10 @@ pub impl fmt::Display for Fault as FaultDisplay {
         match self.place {
             Place::Nothing => write!(f, "refused {number} {layer}"),
             Place::Byte(byte) => write!(f, "refused {number} {layer} byte {byte}"),
-            Place::Record { function, index } => write!(f, "refused {number} {layer} function {function} record {index}"),
+            Place::Record { function, index } => write!(
+                f,
+                "refused {number} {layer} function {function} record {index}"
+            ),
             Place::Thread(thread) => write!(f, "refused {number} {layer} thread {thread}"),
         }
     }

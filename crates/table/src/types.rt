@@ -3,7 +3,7 @@ ghost use mathlib.Core.Path.{_≡_};
 ghost use Rattle.table.specs.Types.{kind-of, mode-of, type-of, is-number, is-alias, is-owned, is-pristine, is-var, is-val, is-once, is-spec};
 
 // What a slot or a field of a type may hold.
-#[derive(Clone, Copy, Debug, PartialEq, Eq, Drop)]
+#[derive(Clone, Copy, Drop)]
 pub enum Kind {
     Number = 0,
     Alias = 1,
@@ -12,7 +12,7 @@ pub enum Kind {
 }
 
 // How a field may be written.
-#[derive(Clone, Copy, Debug, PartialEq, Eq, Drop)]
+#[derive(Clone, Copy, Drop)]
 pub enum Mode {
     Var = 0,
     Val = 1,
@@ -21,7 +21,7 @@ pub enum Mode {
 }
 
 // The four bytes of a type. `barred` is 0 in every type that is in use; bit f of `withheld` withholds field f.
-#[derive(Clone, Copy, Debug, PartialEq, Eq, Drop)]
+#[derive(Clone, Copy, Drop)]
 pub struct Ty {
     pub kind: Kind,
     pub strukt: u8,
@@ -29,7 +29,7 @@ pub struct Ty {
     pub withheld: u8,
 }
 
-#[derive(Clone, Copy, Debug, PartialEq, Eq, Drop)]
+#[derive(Clone, Copy, Drop)]
 pub struct Field {
     pub mode: Mode,
     pub ty: Ty,

@@ -2,11 +2,11 @@
 ghost use mathlib.Core.Path.{_≡_};
 ghost use Prim.Native.Nat.{_+_, _*_, _^_, _≤_, _<_};
 ghost use lib.ListN.{length, take, drop};
-ghost use Rattle.table.specs.Program.{byte, word, struct-count, function-count, section-place, section-end, type-at, struct-place, field-count, field-place, field-at, function-place, param-count, param-place, result-place, record-bytes, record-count, record-place};
+ghost use Rattle.table.specs.Program.{byte, word, struct-count, function-count, section-place, section-end, type-at, struct-place, field-count, field-place, field-at, function-place, param-count, param-place, result-place, record-bytes, record-count, record-place, struct-total, field-total, function-total, param-total, record-total};
 ghost use Rattle.table.specs.Records.{meantBy, decoded};
 ghost use Rattle.table.specs.Reading.{program-of, bytes-of, fields-of, function-of, field-of, param-of, result-of, record-of, found};
+use super::decoding::decode;
 use super::records::Record;
-use super::records::decode;
 use super::types::Field;
 use super::types::Kind;
 use super::types::Mode;
@@ -18,7 +18,7 @@ pub struct Table<'t> {
 }
 
 // Why there is no record at a place.
-#[derive(Clone, Copy, Debug, PartialEq, Eq, Drop)]
+#[derive(Clone, Copy, Drop)]
 pub enum Lacking {
     // the function, or its record, is not there
     Missing = 0,
@@ -29,17 +29,19 @@ pub enum Lacking {
 // What an opened table holds. A struct, field, function or record that is not there has no fields, no type, no records.
 impl<'t> Table<'t> {
     pub fn structs(&self) -> usize
-        ensures { λ r. ⌜ r ≡ length (program-of (now (self .entry)) .structs) ⌝ }
+        ensures value { λ r. ⌜ r ≡ length (program-of (now (self .entry)) .structs) ⌝ }
+        ensures bound { λ r. ⌜ r ≤ 16 ⌝ }
     {
-        self.struct_count()
+        self.struct_total()
     }
 
     // How many fields a struct has.
     pub fn fields(&self, s: usize) -> usize
-        ensures { λ r. ⌜ r ≡ length (fields-of (program-of (now (self .entry))) s) ⌝ }
+        ensures value { λ r. ⌜ r ≡ length (fields-of (program-of (now (self .entry))) s) ⌝ }
+        ensures bound { λ r. ⌜ r ≤ 8 ⌝ }
     {
-        if s < self.struct_count() {
-            self.field_count(s)
+        if s < self.struct_total() {
+            self.field_total(s)
         } else {
             0
         }
@@ -48,27 +50,29 @@ impl<'t> Table<'t> {
     pub fn field(&self, s: usize, f: usize) -> Option<Field>
         ensures { λ r. ⌜ r ≡ field-of (program-of (now (self .entry))) s f ⌝ }
     {
-        if s >= self.struct_count() {
+        if s >= self.struct_total() {
             return None;
         }
-        if f >= self.field_count(s) {
+        if f >= self.field_total(s) {
             return None;
         }
         Some(self.field_at(s, f))
     }
 
     pub fn functions(&self) -> usize
-        ensures { λ r. ⌜ r ≡ length (program-of (now (self .entry)) .functions) ⌝ }
+        ensures value { λ r. ⌜ r ≡ length (program-of (now (self .entry)) .functions) ⌝ }
+        ensures bound { λ r. ⌜ r ≤ 32 ⌝ }
     {
-        self.function_count()
+        self.function_total()
     }
 
     // How many parameters a function has.
     pub fn params(&self, n: usize) -> usize
-        ensures { λ r. ⌜ r ≡ length (function-of (program-of (now (self .entry))) n .params) ⌝ }
+        ensures value { λ r. ⌜ r ≡ length (function-of (program-of (now (self .entry))) n .params) ⌝ }
+        ensures bound { λ r. ⌜ r ≤ 4 ⌝ }
     {
-        if n < self.function_count() {
-            self.param_count(n)
+        if n < self.function_total() {
+            self.param_total(n)
         } else {
             0
         }
@@ -77,10 +81,10 @@ impl<'t> Table<'t> {
     pub fn param(&self, n: usize, i: usize) -> Option<Ty>
         ensures { λ r. ⌜ r ≡ param-of (program-of (now (self .entry))) n i ⌝ }
     {
-        if n >= self.function_count() {
+        if n >= self.function_total() {
             return None;
         }
-        if i >= self.param_count(n) {
+        if i >= self.param_total(n) {
             return None;
         }
         Some(self.type_at(self.param_place(n, i)))
@@ -90,7 +94,7 @@ impl<'t> Table<'t> {
     pub fn result(&self, n: usize) -> Option<Ty>
         ensures { λ r. ⌜ r ≡ result-of (program-of (now (self .entry))) n ⌝ }
     {
-        if n >= self.function_count() {
+        if n >= self.function_total() {
             return None;
         }
         Some(self.type_at(self.result_place(n)))
@@ -98,10 +102,11 @@ impl<'t> Table<'t> {
 
     // How many records a function has.
     pub fn records(&self, n: usize) -> usize
-        ensures { λ r. ⌜ r ≡ length (function-of (program-of (now (self .entry))) n .records) ⌝ }
+        ensures value { λ r. ⌜ r ≡ length (function-of (program-of (now (self .entry))) n .records) ⌝ }
+        ensures bound { λ r. ⌜ r ≤ 255 ⌝ }
     {
-        if n < self.function_count() {
-            self.record_count(n)
+        if n < self.function_total() {
+            self.record_total(n)
         } else {
             0
         }
@@ -111,10 +116,10 @@ impl<'t> Table<'t> {
     pub fn record(&self, n: usize, i: usize) -> Result<Record<'t>, Lacking>
         ensures { λ r. ⌜ found r ≡ record-of (program-of (now (self .entry))) n i ⌝ }
     {
-        if n >= self.function_count() {
+        if n >= self.function_total() {
             return Err(Lacking::Missing);
         }
-        if i >= self.record_count(n) {
+        if i >= self.record_total(n) {
             return Err(Lacking::Missing);
         }
         match self.decode_at(self.record_place(n, i)) {
@@ -141,7 +146,11 @@ impl<'t> Table<'t> {
     pub(crate) fn byte(&self, i: usize) -> u8
         ensures { λ r. ⌜ r ≡ byte (bytes-of (now (self .entry))) i ⌝ }
     {
-        if i < self.bytes.len() { self.bytes[i] } else { 0 }
+        if i < self.bytes.len() {
+            self.bytes[i]
+        } else {
+            0
+        }
     }
 
     fn count(&self, i: usize) -> usize
@@ -193,7 +202,12 @@ impl<'t> Table<'t> {
         requires { ⌜ place < 2 ^ 32 ⌝ }
         ensures { λ r. ⌜ r ≡ type-at (bytes-of (now (self .entry))) place ⌝ }
     {
-        let [kind, strukt, barred, withheld] = [self.byte(place), self.byte(place + 1), self.byte(place + 2), self.byte(place + 3)];
+        let [kind, strukt, barred, withheld] = [
+            self.byte(place),
+            self.byte(place + 1),
+            self.byte(place + 2),
+            self.byte(place + 3),
+        ];
         Ty {
             kind: Kind::of(kind),
             strukt,
@@ -280,7 +294,8 @@ impl<'t> Table<'t> {
         ensures value { λ r. ⌜ r ≡ record-bytes (bytes-of (now (self .entry))) n ⌝ }
         ensures bound { λ r. ⌜ r ≤ 131070 ⌝ }
     {
-        self.section_end(n + 1).saturating_sub(self.result_place(n) + 4)
+        self.section_end(n + 1)
+            .saturating_sub(self.result_place(n) + 4)
     }
 
     pub(crate) fn record_count(&self, n: usize) -> usize
@@ -291,8 +306,46 @@ impl<'t> Table<'t> {
         self.record_bytes(n) / 12
     }
 
+    pub(crate) fn struct_total(&self) -> usize
+        ensures value { λ r. ⌜ r ≡ struct-total (bytes-of (now (self .entry))) ⌝ }
+        ensures bound { λ r. ⌜ r ≤ 16 ⌝ }
+    {
+        self.struct_count().min(16)
+    }
+
+    pub(crate) fn field_total(&self, s: usize) -> usize
+        requires { ⌜ s ≤ 255 ⌝ }
+        ensures value { λ r. ⌜ r ≡ field-total (bytes-of (now (self .entry))) s ⌝ }
+        ensures bound { λ r. ⌜ r ≤ 8 ⌝ }
+    {
+        self.field_count(s).min(8)
+    }
+
+    fn function_total(&self) -> usize
+        ensures value { λ r. ⌜ r ≡ function-total (bytes-of (now (self .entry))) ⌝ }
+        ensures bound { λ r. ⌜ r ≤ 32 ⌝ }
+    {
+        self.function_count().min(32)
+    }
+
+    fn param_total(&self, n: usize) -> usize
+        requires { ⌜ n ≤ 255 ⌝ }
+        ensures value { λ r. ⌜ r ≡ param-total (bytes-of (now (self .entry))) n ⌝ }
+        ensures bound { λ r. ⌜ r ≤ 4 ⌝ }
+    {
+        self.param_count(n).min(4)
+    }
+
+    fn record_total(&self, n: usize) -> usize
+        requires { ⌜ n ≤ 255 ⌝ }
+        ensures value { λ r. ⌜ r ≡ record-total (bytes-of (now (self .entry))) n ⌝ }
+        ensures bound { λ r. ⌜ r ≤ 255 ⌝ }
+    {
+        self.record_count(n).min(255)
+    }
+
     fn record_place(&self, n: usize, i: usize) -> usize
-        requires { ⌜ n ≤ 255 ⌝ ∗ ⌜ i ≤ 131070 ⌝ }
+        requires { ⌜ n ≤ 255 ⌝ ∗ ⌜ i ≤ 255 ⌝ }
         ensures value { λ r. ⌜ r ≡ record-place (bytes-of (now (self .entry))) n i ⌝ }
         ensures bound { λ r. ⌜ r < 2 ^ 22 ⌝ }
     {

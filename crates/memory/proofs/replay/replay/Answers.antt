@@ -1,10 +1,9 @@
-use mathlib.Core.Path.{_≡_, sym, _∙_}
-use mathlib.Core.Bool.{true, false, cond}
-use Prim.Native.Nat.{_+_, _≤_}
+use mathlib.Core.Path.{_≡_, sym, ap, _∙_}
+use mathlib.Core.Bool.{Bool, cond}
+use Prim.Native.Nat.{ℕ, _+_, _≤_}
 use native.Mathlib.Omega.{arith}
-use lib.ListN.{getD}
 use Rattle.std.proofs.shelf.Lists.{at-drop-more, at-drop-all}
-use Rattle.memory.specs.Calls.{acceptedOf, afterCalls, callOf}
+use Rattle.memory.specs.Calls.{acceptedOf, afterCalls}
 use Rattle.memory.specs.declared.replay.Call.{Call}
 use Rattle.memory.specs.declared.replay.Call.the-variants.{Add}
 use Rattle.memory.proofs.Lasting.{calls-keep}
@@ -19,16 +18,15 @@ loop-call-again g c =
     let m = g .M·Memory .model (c .loop-call .memory) in
     let xs = c .args .calls .now in
     let i = c .loop-call .call-index in
-    let x = getD xs i none in
     let a = at-drop-more (acceptedOf m) xs i none (c .loop-call-test .taken) in
     let b = at-drop-more (afterCalls m) xs i none (c .loop-call-test .taken) in
-    let one = c .make .ensures .value in
-    let n : c .if-make .accepted ≡ c .loop-call .accepted + cond (callOf m x) 1 0 = elim (c .if-make .came) [
-        then-make w ↦ let yes : callOf m x ≡ true = sym one ∙ w .if-make .taken in rw yes (w .accepted-is)
-      | else-make w ↦ let no : callOf m x ≡ false = sym one ∙ w .if-make .left in rw no (omega (arith, w .accepted-is))
-      ] in
+    let one = ap (λ (b : Bool). cond {A = ℕ} b 1 0) (c .make .ensures .value) in
+    let n : c .if-make .accepted ≡ c .loop-call .accepted + cond (c .make .result) 1 0 = elim (c .if-make .came) [
+      | then-make w ↦ rw (w .if-make .taken) (w .accepted-is)
+      | else-make w ↦ rw (w .if-make .left) (omega (arith, w .accepted-is))
+    ] in
     let few : c .if-make .accepted ≤ i + 1 = elim (c .if-make .came) [ then-make w ↦ omega (arith, w .accepted-is) | else-make w ↦ omega (arith, w .accepted-is) ] in
-    rw (c .make .ensures .after) ((few, omega (arith, n, a, c .loop-call .inv .1), sym b ∙ c .loop-call .inv .2))
+    rw (c .make .ensures .after) ((few, omega (arith, n, one, a, c .loop-call .inv .1), sym b ∙ c .loop-call .inv .2))
 
 pub returns : need.returns
 returns g c =
@@ -41,5 +39,5 @@ returns g c =
     record {
       value = omega (arith, a, c .loop-call .inv .1);
       after = after;
-      keeps = rw after (calls-keep start xs)
+      keeps = rw after (calls-keep start xs);
     }

@@ -7,8 +7,8 @@ use Rattle.table.specs.Reading.{bytes-of}
 use Rattle.table.proofs.Sets.{keeps-reference, lacks-struct}
 use Rattle.table.proofs.keeping.keeps_rules.Needs as need
 
-pub returns-then-s-struct-count : need.returns-then-s-struct-count
-returns-then-s-struct-count c =
+pub returns-then-s-struct-total : need.returns-then-s-struct-total
+returns-then-s-struct-total c =
     lacks-struct (bytes-of (c .args .table .now)) (c .args .ty) (omega arith) (sym (c .is-number .ensures) ∙ c .if-is-number .left) (omega arith)
 
 pub returns : need.returns

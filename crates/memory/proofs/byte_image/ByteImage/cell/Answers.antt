@@ -1,6 +1,4 @@
-use Prim.Native.Nat.{_<_}
 use mathlib.Core.Path.{sym, ap, _∙_}
-use Prim.Native.Nat.{ }
 use Rattle.memory.specs.Images.{cellFrom}
 use Rattle.memory.proofs.Encoding.{cell-at}
 use Rattle.memory.proofs.byte_image.ByteImage.cell.Needs as need

@@ -1,6 +1,5 @@
-use Prim.Native.Nat.{_<_}
 use mathlib.Core.Path.{ap, _∙_}
-use Prim.Native.Nat.{_+_, _*_,  }
+use Prim.Native.Nat.{_+_, _*_}
 use Rattle.memory.specs.Words.{withWord}
 use Rattle.memory.proofs.Encoding.{image-write}
 use Rattle.memory.proofs.byte_image.ByteImage.set_cell.Needs as need

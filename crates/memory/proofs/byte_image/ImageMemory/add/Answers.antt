@@ -22,5 +22,5 @@ returns c =
     record {
       value = search (needs, length-image);
       after = image-grown (s .count) (c .held-number .result) bs (c .blank .last .bytes) k (c .blank .ensures) (c .held-number .ensures) (search needs) (omega arith) ∙ whole;
-      sized = image-sized (c .held-number .result + 1) (c .blank .last .bytes)
+      sized = image-sized (c .held-number .result + 1) (c .blank .last .bytes);
     }

@@ -3,9 +3,9 @@ use Prim.Native.Nat.{_+_, _*_, _≤_, _<_}
 use native.Mathlib.Omega.{arith}
 use lib.ListN.{length, getD, take, drop}
 use Rattle.table.specs.Reading.{bytes-of}
-use Rattle.table.specs.Program.{struct-count, struct-at}
+use Rattle.table.specs.Program.{struct-total, struct-at}
 use Rattle.table.proofs.Listing.{length-listing}
 use Rattle.table.proofs.view.Table.structs.Needs as need
 
 pub returns : need.returns
-returns c = c .struct-count .ensures .value ∙ sym (length-listing (struct-count (bytes-of (c .args .self .now))) (struct-at (bytes-of (c .args .self .now))))
+returns c = record { value = c .struct-total .ensures .value ∙ sym (length-listing (struct-total (bytes-of (c .args .self .now))) (struct-at (bytes-of (c .args .self .now)))); bound = omega arith }

@@ -1,0 +1,62 @@
+// The result of rehearsing a table, as a value whose `Display` is what is printed.
+ghost use mathlib.Core.Path.{_≡_};
+ghost use Rattle.std.specs.declared.option.Option.the-variants.{Some};
+ghost use Rattle.report.specs.Reports.{reported, report-text};
+use std::fmt;
+use table::Fault;
+use table::FaultDebug;
+use table::FaultDisplay;
+use table::FaultPartialEq;
+use table::open;
+
+#[derive(Clone, Copy, Debug, PartialEq, Eq, Drop)]
+pub enum Report {
+    // the table is refused
+    Refused(Fault),
+    // how many structs and functions it has
+    Counts { structs: usize, functions: usize },
+}
+
+// Reads a table of any length.
+pub fn rehearse(bytes: &[u8]) -> Report
+    ensures { λ r. ⌜ r ≡ reported (now (bytes .entry)) ⌝ }
+{
+    match open(bytes) {
+        Ok(table) => Report::Counts {
+            structs: table.structs(),
+            functions: table.functions(),
+        },
+        Err(fault) => Report::Refused(fault),
+    }
+}
+
+pub impl fmt::Display for Report as ReportDisplay {
+    ghost shown = { λ x. Some (report-text x) };
+
+    fn fmt<W: fmt::Write>(&self, f: &mut fmt::Formatter<W>) -> fmt::Result {
+        match self {
+            Report::Refused(fault) => write!(f, "{fault}"),
+            Report::Counts { structs, functions } => write!(
+                f,
+                "structs {structs} functions {functions}"
+            ),
+        }
+    }
+}
+
+#[cfg(test)]
+mod tests {
+    use super::*;
+    use std::test::*;
+    use table::Place;
+
+    // One byte more than a table may have.
+    #[test]
+    fn too_long(rt: LibcRuntime) -> Result<(), Fail> {
+        let bytes = vec![in rt.alloc(); 1u8; 65_536]?;
+        check_eq(
+            rehearse(&bytes),
+            Report::Refused(Fault::new(1, Place::Byte(0))),
+        )
+    }
+}

@@ -1,5 +1,0 @@
-use Rattle.rules.proofs.Laws.{verdict-lawful}
-use Rattle.rules.proofs.lawful_stands.Needs as need
-
-pub returns : need.returns
-returns c = verdict-lawful
