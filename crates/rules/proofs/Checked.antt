@@ -1,6 +1,6 @@
 -- The check of all functions gives the verdict, and what the verdict says.
-use mathlib.Core.Path.{_≡_, refl, sym, ap, _∙_}
-use mathlib.Core.List.{List, [], _∷_, map}
+use mathlib.Core.Path.{_≡_, sym, ap, _∙_}
+use mathlib.Core.List.{List, []}
 use mathlib.Core.Logic.{inl, inr}
 use Prim.Native.Nat.{ℕ, suc, _+_, _-_, _≤_, _<_}
 use native.Mathlib.Numerals.{add-one}
@@ -14,7 +14,6 @@ use Rattle.std.specs.declared.result.Result.the-variants.{Ok, Err}
 use Rattle.table.specs.declared.fault.Fault.{Fault}
 use Rattle.table.specs.declared.fault.Place.the-variants.{Nothing}
 use Rattle.table.specs.declared.types.Ty.{Ty}
-use Rattle.table.specs.declared.types.Field.{Field}
 use Rattle.table.specs.declared.view.Table.{Table}
 use Rattle.table.specs.Faults.{Passes, fault, _>>=_}
 use Rattle.table.specs.Records.{Op}
@@ -24,7 +23,8 @@ use Rattle.rules.specs.declared.parts.Sort.the-variants.{InBody}
 use Rattle.rules.specs.Rules.{number, no-function, callee}
 use Rattle.rules.specs.Scopes.{read, start, bodies, verdict}
 use Rattle.rules.specs.Scan.{scan}
-use Rattle.rules.specs.Seen.{clipped-function, seen}
+use Rattle.rules.specs.Seen.{seen}
+use Rattle.rules.proofs.Seen.{seen-is}
 use Rattle.rules.specs.Parts.{span}
 use Rattle.rules.specs.Checked.{checked, Opens, Says}
 use Rattle.rules.proofs.Formed.{program-stands}
@@ -68,23 +68,7 @@ module _ (p : Program) where
   pub bodies-end : (i : ℕ) → length (p .functions) ≤ i → bodies p i (drop i (p .functions)) ≡ verdict p → Ok tt ≡ verdict p
   bodies-end i l h = sym (at-drop-all (λ (fs : List Function). bodies p i fs) (p .functions) i l) ∙ h
 
--- nothing is left out of a table that opens
-pub map-same : {X : Type 0} (f : X → X) (xs : List X) (d : X) → ((i : ℕ) → i < length xs → f (getD xs i d) ≡ getD xs i d) → map f xs ≡ xs
-map-same f [] d h = refl
-map-same f (x ∷ xs) d h = rw (h 0 (omega arith), map-same f xs d (λ i l. h (suc i) (omega arith))) refl
-
-pub clipped-same : (fn : Function) → length (fn .params) ≤ 4 → clipped-function fn ≡ fn
-clipped-same fn h = ap (λ (ps : List Ty). record { params = ps; result = fn .result; records = fn .records }) (take-all 4 (fn .params) h)
-
-pub seen-whole : (t : Table) → Opens (program-of t) → seen t ≡ program-of t
-unfolding seen
-seen-whole t o =
-    let a = program-stands (o .0) (program-of t) (o .1) in
-    let s = map-same (take 8) (program-of t .structs) [] (λ i l. take-all 8 (getD (program-of t .structs) i []) (a .1 .narrow i)) in
-    let f = map-same clipped-function (program-of t .functions) no-function (λ i l. clipped-same (getD (program-of t .functions) i no-function) (a .0 .few i)) in
-    ap (λ (ss : List (List Field)). record { structs = ss; functions = map clipped-function (program-of t .functions) }) s
-    ∙ ap (λ (fs : List Function). record { structs = program-of t .structs; functions = fs }) f
-
+-- what the answer says
 pub answer-says : (p : Program) (room : ℕ) (r : Passes) → Opens p → r ≡ checked room p → Says p room r
 answer-says p room r o h = record {
   is = h;
@@ -103,8 +87,8 @@ answer-says p room r o h = record {
           | inr x ↦ sym (h ∙ cond-false (ltb room 128) (Err (fault 30 Nothing)) (verdict p) (le-ltb room 128 x)) ∙ y
         ]
 
-pub opened-says : (t : Table) (room : ℕ) (r : Passes) → r ≡ checked room (seen t) → Opens (program-of t) → Says (program-of t) room r
-opened-says t room r h o = answer-says (program-of t) room r o (h ∙ ap (checked room) (seen-whole t o))
+pub seen-checked : (t : Table) (room : ℕ) (r : Passes) → r ≡ checked room (seen t) → r ≡ checked room (program-of t)
+seen-checked t room r h = h ∙ ap (checked room) (seen-is t)
 
 pub checked-small : (room : ℕ) (p : Program) → room < 128 → Err (fault 30 Nothing) ≡ checked room p
 checked-small room p h = sym (cond-true (ltb room 128) (Err (fault 30 Nothing)) (verdict p) (lt-ltb room 128 h))

@@ -20,7 +20,9 @@ use Rattle.table.specs.Program.{Function, Program}
 use Rattle.rules.specs.Rules.{record-at, no-function, callee, first, premises, asks, bound, yes-types}
 use Rattle.rules.specs.Scopes.{Block, Yes, No, State, state, end-of, close, shape, grown, move, after, before, verdict}
 use Rattle.rules.specs.Blocks.{Accepted, Tests}
+use Rattle.rules.specs.declared.body.Body.{Body}
 use Rattle.rules.specs.declared.walking.Step.{Step}
+use Rattle.rules.specs.Seen.{program-in, function-in}
 use Rattle.rules.specs.Walk.{unless, allowing, Toward, Leads, Gives}
 use Rattle.rules.proofs.Steps.{good, before-suc, verdict-stands}
 use Rattle.rules.proofs.Blocks.{blocks-stand}
@@ -137,6 +139,6 @@ gives p fn j i d xs e l w =
     let n : length (before p fn j .types) ≡ d = ap length t ∙ length-take-le d xs l in
     record { count = ap Some (sym n); types = ap (λ m. take m xs) n ∙ sym t }
 
-pub no-step : (p : Program) (fn : Function) (j : ℕ) (xs : List Ty) (r : Option Step) → ((s : Step) → r ≡ Some s → ⊥) → Leads p fn j xs r → ⊥
-no-step p fn j xs None h w = w
-no-step p fn j xs (Some s) h w = h s refl
+pub no-step : (b : Body) (j : ℕ) (xs : List Ty) (r : Option Step) → ((s : Step) → r ≡ Some s → ⊥) → Leads b j xs r → Accepted (program-in b) (function-in b) → j < length (function-in b .records) → ⊥
+no-step b j xs None h w ok l = w ok l
+no-step b j xs (Some s) h w ok l = h s refl

@@ -1,19 +1,42 @@
 -- What the rules ask of a record in the scope that the code has at hand.
+use mathlib.Core.Bool.{Bool}
 use mathlib.Core.List.{List}
 use Prim.Native.Nat.{ℕ, _<_}
 use lib.ListN.{length}
 use denote.Ref.{now}
 use Rattle.std.specs.declared.option.Option.{Option}
+use Rattle.table.specs.declared.types.Mode.{Mode}
 use Rattle.table.specs.declared.types.Ty.{Ty}
 use Rattle.table.specs.declared.records.Test.{Test}
 use Rattle.table.specs.declared.records.Test.the-variants.{Nil, Same, Equal, Less, Link, Unlink, Swap, Try, Fix, Stable}
 use Rattle.table.specs.Records.{Op, New, Null, Int, Share, Own, Get, Take, Set, Add, Call, Fork, Return, Again, Join, Emit, Ask}
 use Rattle.rules.specs.declared.scope.Scope.{Scope}
-use Rattle.rules.specs.Rules.{first, premises, asks, bound, yes-types}
+use Rattle.rules.specs.Rules.{first, premises, asks, bound, yes-types, slot, there, field-mode, field-type, tentative, callee}
 use Rattle.rules.specs.Seen.{program-in, function-in}
 
 abbrev pub types-in : Scope → List Ty
 types-in s = now (s .types)
+
+-- the type of a slot; whether its struct has a field, and that field's mode and declared type
+abbrev pub slot-in : Scope → ℕ → Ty
+slot-in s x = slot (types-in s) x
+
+abbrev pub there-in : Scope → ℕ → ℕ → Bool
+there-in s x f = there (program-in (s .body)) (function-in (s .body)) (types-in s) x f
+
+abbrev pub mode-in : Scope → ℕ → ℕ → Mode
+mode-in s x f = field-mode (program-in (s .body)) (function-in (s .body)) (types-in s) x f
+
+abbrev pub field-type-in : Scope → ℕ → ℕ → Ty
+field-type-in s x f = field-type (program-in (s .body)) (function-in (s .body)) (types-in s) x f
+
+-- whether y is written to a field of x's that will own it
+abbrev pub tentative-in : Scope → ℕ → ℕ → ℕ → Bool
+tentative-in s x f y = tentative (program-in (s .body)) (function-in (s .body)) (types-in s) x f y
+
+-- the parameters of a function
+abbrev pub params-in : Scope → ℕ → List Ty
+params-in s n = callee (program-in (s .body)) n .params
 
 -- the number of the first premise of a record that fails
 abbrev pub refused : Scope → Op → Option ℕ

@@ -35,7 +35,7 @@ const NO_FIELD: Field = Field {
     ty: NUMBER,
 };
 
-// A struct has at most eight fields, and a function four parameters: of a table that opens, nothing is left out here.
+// What is not there has no fields, no parameters and no records.
 impl<'t> Body<'t> {
     pub fn has_struct(self, s: u8) -> bool
         ensures { λ r. ⌜ r ≡ ltb s (length (program-in (self .entry) .structs)) ⌝ }
@@ -52,15 +52,12 @@ impl<'t> Body<'t> {
     pub fn has_field(self, s: u8, f: u8) -> bool
         ensures { λ r. ⌜ r ≡ ltb f (length (getD (program-in (self .entry) .structs) s [])) ⌝ }
     {
-        f < 8 && (f as usize) < self.table.fields(s as usize)
+        (f as usize) < self.table.fields(s as usize)
     }
 
     pub fn field(self, s: u8, f: u8) -> Field
         ensures { λ r. ⌜ r ≡ declared (program-in (self .entry)) s f ⌝ }
     {
-        if f >= 8 {
-            return NO_FIELD;
-        }
         match self.table.field(s as usize, f as usize) {
             Some(field) => field,
             None => NO_FIELD,
@@ -71,15 +68,12 @@ impl<'t> Body<'t> {
         ensures value { λ r. ⌜ r ≡ length (callee (program-in (self .entry)) n .params) ⌝ }
         ensures few { λ r. ⌜ r ≤ 4 ⌝ }
     {
-        self.table.params(n).min(4)
+        self.table.params(n)
     }
 
     pub fn param(self, n: usize, i: usize) -> Ty
         ensures { λ r. ⌜ r ≡ getD (callee (program-in (self .entry)) n .params) i number ⌝ }
     {
-        if i >= 4 {
-            return NUMBER;
-        }
         match self.table.param(n, i) {
             Some(ty) => ty,
             None => NUMBER,

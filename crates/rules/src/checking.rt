@@ -7,7 +7,7 @@ ghost use Rattle.table.specs.Records.{meant};
 ghost use Rattle.rules.specs.Rules.{bound, yes-types};
 ghost use Rattle.table.specs.Reading.{program-of};
 ghost use Rattle.rules.specs.Scopes.{grown, read, start};
-ghost use Rattle.rules.specs.Seen.{seen, program-in, function-in};
+ghost use Rattle.rules.specs.Seen.{program-in, function-in};
 ghost use Rattle.rules.specs.Checked.{checked, Opens, Says};
 ghost use Rattle.rules.specs.Parts.{scanned, tested, judged-at, said-by, refused-in, test-refused-in};
 use super::body::Body;
@@ -204,7 +204,7 @@ fn check_body(body: Body<'_>, scratch: &mut [Ty]) -> Result<(), Fault>
 
 // Checks all records of a table by the rules, in scratch for 128 types.
 pub fn check(table: &Table<'_>, scratch: &mut [Ty]) -> Result<(), Fault>
-    ensures value { λ r. ⌜ r ≡ checked (length (now (scratch .entry))) (seen (now (table .entry))) ⌝ }
+    ensures value { λ r. ⌜ r ≡ checked (length (now (scratch .entry))) (program-of (now (table .entry))) ⌝ }
     ensures opened { λ r. ⌜ (Opens (program-of (now (table .entry))) → Says (program-of (now (table .entry))) (length (now (scratch .entry))) r) ⌝ }
 {
     if scratch.len() < 128 {

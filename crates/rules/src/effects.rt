@@ -7,9 +7,8 @@ ghost use Rattle.table.specs.declared.types.Kind.the-variants.{Alias};
 ghost use Rattle.table.specs.Types.{is-number};
 ghost use Rattle.table.specs.Reading.{number};
 ghost use Rattle.table.specs.Records.{meant};
-ghost use Rattle.rules.specs.Rules.{type, withholding, slot, field-type, flows, with, without};
-ghost use Rattle.rules.specs.Seen.{program-in, function-in};
-ghost use Rattle.rules.specs.Scoped.{types-in, Low, Changes, binding, changed};
+ghost use Rattle.rules.specs.Rules.{type, withholding, flows, with, without};
+ghost use Rattle.rules.specs.Scoped.{types-in, slot-in, field-type-in, Low, Changes, binding, changed};
 use super::body::NUMBER;
 use super::flow::alone;
 use super::flow::can_flow;
@@ -65,7 +64,7 @@ impl<'t, 's> Scope<'t, 's> {
     // The type of x once y was set in its field f: what flows there is no longer withheld, a tentative alias is.
     fn once_set(self, x: u8, f: u8, y: u8) -> Ty
         requires { ⌜ f < 8 ⌝ }
-        ensures { λ r. ⌜ r ≡ withholding (slot (types-in (self .entry)) x) (cond (flows (slot (types-in (self .entry)) y) (field-type (program-in (self .entry .body)) (function-in (self .entry .body)) (types-in (self .entry)) x f)) (without (slot (types-in (self .entry)) x .withheld) f) (with (slot (types-in (self .entry)) x .withheld) f)) ⌝ }
+        ensures { λ r. ⌜ r ≡ withholding (slot-in (self .entry) x) (cond (flows (slot-in (self .entry) y) (field-type-in (self .entry) x f)) (without (slot-in (self .entry) x .withheld) f) (with (slot-in (self .entry) x .withheld) f)) ⌝ }
     {
         let ty = self.slot(x);
         if can_flow(self.slot(y), self.field_type(x, f)) {
@@ -78,7 +77,7 @@ impl<'t, 's> Scope<'t, 's> {
     // The type of x with field f withheld too.
     fn keeping(self, x: u8, f: u8) -> Ty
         requires { ⌜ f < 8 ⌝ }
-        ensures { λ r. ⌜ r ≡ withholding (slot (types-in (self .entry)) x) (with (slot (types-in (self .entry)) x .withheld) f) ⌝ }
+        ensures { λ r. ⌜ r ≡ withholding (slot-in (self .entry) x) (with (slot-in (self .entry) x .withheld) f) ⌝ }
     {
         let ty = self.slot(x);
         with_set(ty, with_bit(ty.withheld, f))

@@ -1,14 +1,11 @@
 // One rule for each op: its premises in reading order, with the numbers of their refusals. All are computed, so `&` and `|` do.
 ghost use mathlib.Core.Path.{_≡_};
-ghost use mathlib.Core.Bool.{cond, not, _&&_, _||_};
-ghost use lib.ListN.{length};
+ghost use mathlib.Core.Bool.{cond, not};
 ghost use Rattle.table.specs.declared.records.Test.the-variants as asked;
 ghost use Rattle.table.specs.Records as op;
 ghost use Rattle.table.specs.Records.{meant};
-ghost use Rattle.rules.specs.Rules.{field-mode, tentative, slot-kind};
 ghost use Rattle.table.specs.Types.{is-pristine, is-once, is-var};
-ghost use Rattle.rules.specs.Seen.{program-in, function-in};
-ghost use Rattle.rules.specs.Scoped.{types-in, refused, refused-test};
+ghost use Rattle.rules.specs.Scoped.{slot-in, mode-in, tentative-in, refused, refused-test};
 use super::flow::can_flow;
 use super::flow::has_bit;
 use super::flow::is_alone;
@@ -17,7 +14,7 @@ use super::scope::all_differ;
 use super::scope::first_failing;
 use table::records::Record;
 use table::records::Test;
-use table::records::zeros_from;
+use table::zeros_from;
 
 impl<'t, 's> Scope<'t, 's> {
     // The number that a record is refused with, but for its place in the blocks.
@@ -110,7 +107,7 @@ impl<'t, 's> Scope<'t, 's> {
 
     // What x may have set in it: of a pristine object all but a once field, of an owned one a var field.
     fn may_set(self, x: u8, f: u8) -> bool
-        ensures { λ r. ⌜ r ≡ cond (is-pristine (slot-kind (program-in (self .entry .body)) (function-in (self .entry .body)) (types-in (self .entry)) x)) (not (is-once (field-mode (program-in (self .entry .body)) (function-in (self .entry .body)) (types-in (self .entry)) x f))) (is-var (field-mode (program-in (self .entry .body)) (function-in (self .entry .body)) (types-in (self .entry)) x f)) ⌝ }
+        ensures { λ r. ⌜ r ≡ cond (is-pristine (slot-in (self .entry) x .kind)) (not (is-once (mode-in (self .entry) x f))) (is-var (mode-in (self .entry) x f)) ⌝ }
     {
         if self.is_pristine(x) {
             !self.mode(x, f).is_once()
@@ -121,7 +118,7 @@ impl<'t, 's> Scope<'t, 's> {
 
     // Whether y is an alias with an empty set, and f a field that will own it.
     fn is_tentative(self, x: u8, f: u8, y: u8) -> bool
-        ensures { λ r. ⌜ r ≡ tentative (program-in (self .entry .body)) (function-in (self .entry .body)) (types-in (self .entry)) x f y ⌝ }
+        ensures { λ r. ⌜ r ≡ tentative-in (self .entry) x f y ⌝ }
     {
         let field = self.field_type(x, f);
         let from = self.slot(y);

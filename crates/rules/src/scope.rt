@@ -1,13 +1,12 @@
 // A scope: the types of the slots that a record finds.
 ghost use mathlib.Core.Path.{_≡_};
-ghost use mathlib.Core.Bool.{cond, not, _&&_, _||_};
+ghost use mathlib.Core.Bool.{_&&_, _||_};
 ghost use Prim.Native.Nat.{_≤_};
 ghost use lib.Dec.{ltb, eqb};
 ghost use lib.ListN.{length, take};
-ghost use Rattle.table.specs.Types.{is-number, is-alias, is-owned, is-pristine, is-var, is-once};
-ghost use Rattle.rules.specs.Rules.{slot, first, below, lacks, distinct, flow-to, callee, free, there, field-mode, field-type, reference, lasting, held, tentative};
-ghost use Rattle.rules.specs.Seen.{program-in, function-in};
-ghost use Rattle.rules.specs.Scoped.{types-in};
+ghost use Rattle.table.specs.Types.{is-number, is-alias, is-owned, is-pristine};
+ghost use Rattle.rules.specs.Rules.{first, below, lacks, distinct, flow-to};
+ghost use Rattle.rules.specs.Scoped.{types-in, slot-in, there-in, mode-in, field-type-in, params-in};
 use super::body::Body;
 use super::body::NUMBER;
 use super::flow::can_flow;
@@ -49,7 +48,7 @@ impl<'t, 's> Scope<'t, 's> {
     }
 
     pub fn slot(self, x: u8) -> Ty
-        ensures { λ r. ⌜ r ≡ slot (types-in (self .entry)) x ⌝ }
+        ensures { λ r. ⌜ r ≡ slot-in (self .entry) x ⌝ }
     {
         let i = x as usize;
         if i < self.types.len() {
@@ -60,26 +59,26 @@ impl<'t, 's> Scope<'t, 's> {
     }
 
     pub fn is_number(self, x: u8) -> bool
-        ensures { λ r. ⌜ r ≡ is-number (slot (types-in (self .entry)) x .kind) ⌝ }
+        ensures { λ r. ⌜ r ≡ is-number (slot-in (self .entry) x .kind) ⌝ }
     {
         self.slot(x).kind.is_number()
     }
 
     pub fn is_alias(self, x: u8) -> bool
-        ensures { λ r. ⌜ r ≡ is-alias (slot (types-in (self .entry)) x .kind) ⌝ }
+        ensures { λ r. ⌜ r ≡ is-alias (slot-in (self .entry) x .kind) ⌝ }
     {
         self.slot(x).kind.is_alias()
     }
 
     pub fn is_pristine(self, x: u8) -> bool
-        ensures { λ r. ⌜ r ≡ is-pristine (slot (types-in (self .entry)) x .kind) ⌝ }
+        ensures { λ r. ⌜ r ≡ is-pristine (slot-in (self .entry) x .kind) ⌝ }
     {
         self.slot(x).kind.is_pristine()
     }
 
     // An alias or owned.
     pub fn is_lasting(self, x: u8) -> bool
-        ensures { λ r. ⌜ r ≡ (is-alias (slot (types-in (self .entry)) x .kind) || is-owned (slot (types-in (self .entry)) x .kind)) ⌝ }
+        ensures { λ r. ⌜ r ≡ (is-alias (slot-in (self .entry) x .kind) || is-owned (slot-in (self .entry) x .kind)) ⌝ }
     {
         let kind = self.slot(x).kind;
         kind.is_alias() || kind.is_owned()
@@ -87,7 +86,7 @@ impl<'t, 's> Scope<'t, 's> {
 
     // Owned or pristine.
     pub fn is_held(self, x: u8) -> bool
-        ensures { λ r. ⌜ r ≡ (is-owned (slot (types-in (self .entry)) x .kind) || is-pristine (slot (types-in (self .entry)) x .kind)) ⌝ }
+        ensures { λ r. ⌜ r ≡ (is-owned (slot-in (self .entry) x .kind) || is-pristine (slot-in (self .entry) x .kind)) ⌝ }
     {
         let kind = self.slot(x).kind;
         kind.is_owned() || kind.is_pristine()
@@ -95,20 +94,20 @@ impl<'t, 's> Scope<'t, 's> {
 
     // Whether x's struct has a field f.
     pub fn has_field(self, x: u8, f: u8) -> bool
-        ensures { λ r. ⌜ r ≡ there (program-in (self .entry .body)) (function-in (self .entry .body)) (types-in (self .entry)) x f ⌝ }
+        ensures { λ r. ⌜ r ≡ there-in (self .entry) x f ⌝ }
     {
         self.body.has_field(self.slot(x).strukt, f)
     }
 
     pub fn mode(self, x: u8, f: u8) -> Mode
-        ensures { λ r. ⌜ r ≡ field-mode (program-in (self .entry .body)) (function-in (self .entry .body)) (types-in (self .entry)) x f ⌝ }
+        ensures { λ r. ⌜ r ≡ mode-in (self .entry) x f ⌝ }
     {
         self.body.field(self.slot(x).strukt, f).mode
     }
 
     // The declared type of field f of x's struct.
     pub fn field_type(self, x: u8, f: u8) -> Ty
-        ensures { λ r. ⌜ r ≡ field-type (program-in (self .entry .body)) (function-in (self .entry .body)) (types-in (self .entry)) x f ⌝ }
+        ensures { λ r. ⌜ r ≡ field-type-in (self .entry) x f ⌝ }
     {
         self.body.field(self.slot(x).strukt, f).ty
     }
@@ -127,8 +126,8 @@ impl<'t, 's> Scope<'t, 's> {
 
     // Whether each slot flows to the parameter of function n at its place.
     pub fn flow_to(self, slots: &[u8], n: usize) -> bool
-        requires { ⌜ length (now slots) ≤ length (callee (program-in (self .body)) n .params) ⌝ }
-        ensures { λ r. ⌜ r ≡ flow-to (types-in (self .entry)) (now (slots .entry)) (callee (program-in (self .entry .body)) n .params) ⌝ }
+        requires { ⌜ length (now slots) ≤ length (params-in self n) ⌝ }
+        ensures { λ r. ⌜ r ≡ flow-to (types-in (self .entry)) (now (slots .entry)) (params-in (self .entry) n) ⌝ }
     {
         for i in 0..slots.len() {
             if !can_flow(self.slot(slots[i]), self.body.param(n, i)) {
@@ -140,8 +139,8 @@ impl<'t, 's> Scope<'t, 's> {
 
     // The bytes that are a call's arguments: so many as function n has parameters.
     pub fn arguments<'a>(self, n: usize, bytes: &'a [u8]) -> &'a [u8]
-        ensures value { λ r. ⌜ now r ≡ take (length (callee (program-in (self .entry .body)) n .params)) (now (bytes .entry)) ⌝ }
-        ensures few { λ r. ⌜ length (now r) ≤ length (callee (program-in (self .entry .body)) n .params) ⌝ }
+        ensures value { λ r. ⌜ now r ≡ take (length (params-in (self .entry) n)) (now (bytes .entry)) ⌝ }
+        ensures few { λ r. ⌜ length (now r) ≤ length (params-in (self .entry) n) ⌝ }
     {
         let count = self.body.params(n);
         if count < bytes.len() {

@@ -5,12 +5,13 @@ ghost use lib.ListN.{length, take};
 ghost use Rattle.std.specs.declared.option.Option.the-variants.{None};
 ghost use Rattle.std.specs.declared.result.Result.the-variants.{Ok};
 ghost use Rattle.table.specs.Records.{meantBy};
+ghost use Rattle.table.specs.Reading.{program-of};
 ghost use Rattle.rules.specs.Rules.{record-at, callee};
 ghost use Rattle.rules.specs.Scopes.{before, verdict};
-ghost use Rattle.rules.specs.Blocks.{Accepted, Tests};
-ghost use Rattle.rules.specs.Seen.{seen, program-in, function-in};
+ghost use Rattle.rules.specs.Blocks.{Tests};
+ghost use Rattle.rules.specs.Seen.{program-in, function-in};
 ghost use Rattle.rules.specs.Parts.{test-refused-in};
-ghost use Rattle.rules.specs.Walk.{allowing, Toward, Nearer, Leads, Gives};
+ghost use Rattle.rules.specs.Walk.{allowing, Way, Nearer, Leads, Gives};
 use super::body::Body;
 use super::checking::bind;
 use super::checking::enter;
@@ -53,7 +54,7 @@ fn pass_test(
 ) -> usize
     requires { ⌜ from .depth ≤ 16 ⌝ ∗ ⌜ 16 ≤ length (now types) ⌝ ∗ ⌜ from .place < index ⌝ ∗ ⌜ test-refused-in body (take (from .depth) (now types)) test ≡ None ⌝ }
     ensures nearer { λ r. ⌜ from .place < r ⌝ ∗ ⌜ r ≤ index ⌝ }
-    ensures leads { λ r. ⌜ (Accepted (program-in (body .entry)) (function-in (body .entry)) → index < length (function-in (body .entry) .records) → Tests (function-in (body .entry)) (from .place) test yes no → Toward (program-in (body .entry)) (function-in (body .entry)) index (from .place) (take (from .depth) (now (types .entry))) → Toward (program-in (body .entry)) (function-in (body .entry)) index r (take (from .depth) (now (types .exit)))) ⌝ }
+    ensures leads { λ r. ⌜ (Way (body .entry) index (from .place) (take (from .depth) (now (types .entry))) → Tests (function-in (body .entry)) (from .place) test yes no → Way (body .entry) index r (take (from .depth) (now (types .exit)))) ⌝ }
 {
     let ahead = index - (from.place + 1);
     if ahead < yes as usize {
@@ -75,7 +76,7 @@ fn pass_test(
 fn advance(body: Body<'_>, types: &mut [Ty], from: Step, index: usize) -> Option<Step>
     requires { ⌜ from .depth ≤ 16 ⌝ ∗ ⌜ 16 ≤ length (now types) ⌝ ∗ ⌜ from .place < index ⌝ }
     ensures nearer { λ r. ⌜ Nearer (from .place) index r ⌝ }
-    ensures leads { λ r. ⌜ (Accepted (program-in (body .entry)) (function-in (body .entry)) → index < length (function-in (body .entry) .records) → Toward (program-in (body .entry)) (function-in (body .entry)) index (from .place) (take (from .depth) (now (types .entry))) → Leads (program-in (body .entry)) (function-in (body .entry)) index (now (types .exit)) r) ⌝ }
+    ensures leads { λ r. ⌜ (Way (body .entry) index (from .place) (take (from .depth) (now (types .entry))) → Leads (body .entry) index (now (types .exit)) r) ⌝ }
 {
     let Some(said) = allowed(body, &types[..from.depth], from.place) else {
         return None;
@@ -106,15 +107,18 @@ pub fn scope_before(
     index: usize,
     scratch: &mut [Ty],
 ) -> Option<usize>
-    ensures missing { λ r. ⌜ (length (callee (seen (now (table .entry))) function .records) ≤ index → r ≡ None) ⌝ }
+    ensures missing { λ r. ⌜ (length (callee (program-of (now (table .entry))) function .records) ≤ index → r ≡ None) ⌝ }
     ensures small { λ r. ⌜ (length (now (scratch .entry)) < 16 → r ≡ None) ⌝ }
-    ensures found { λ r. ⌜ (verdict (seen (now (table .entry))) ≡ Ok tt → index < length (callee (seen (now (table .entry))) function .records) → 16 ≤ length (now (scratch .entry)) → Gives (before (seen (now (table .entry))) (callee (seen (now (table .entry))) function) index .types) (now (scratch .exit)) r) ⌝ }
+    ensures found { λ r. ⌜ (verdict (program-of (now (table .entry))) ≡ Ok tt → index < length (callee (program-of (now (table .entry))) function .records) → 16 ≤ length (now (scratch .entry)) → Gives (before (program-of (now (table .entry))) (callee (program-of (now (table .entry))) function) index .types) (now (scratch .exit)) r) ⌝ }
 {
     let body = Body {
         table: *table,
         function,
     };
-    if index >= body.records() || scratch.len() < 16 {
+    if index >= body.records() {
+        return None;
+    }
+    if scratch.len() < 16 {
         return None;
     }
     let mut at = Step {

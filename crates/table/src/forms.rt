@@ -139,7 +139,7 @@ impl Form {
 }
 
 // Whether all bytes from a place on are 0.
-fn zeros_from(bytes: &[u8], place: usize) -> bool
+pub fn zeros_from(bytes: &[u8], place: usize) -> bool
     ensures { λ r. ⌜ r ≡ zeros (drop place (now (bytes .entry))) ⌝ }
 {
     for i in place..bytes.len() {

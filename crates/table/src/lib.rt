@@ -15,6 +15,7 @@ pub use fault::FaultDebug;
 pub use fault::FaultPartialEq;
 pub use fault::Layer;
 pub use fault::Place;
+pub use forms::zeros_from;
 pub use opening::open;
 pub use shown::FaultDisplay;
 pub use shown::LayerDisplay;

@@ -17,8 +17,8 @@ returns-in-rest c =
     let near : c .args .from .place < c .args .index = search needs in
     record {
       nearer = tt;
-      leads = λ ok there way.
-          never-refused (program-in b) (function-in b) (c .args .index) ok there (c .args .from .place) (take (c .args .from .depth) (c .args .types .now)) near way
+      leads = λ way ok there.
+          never-refused (program-in b) (function-in b) (c .args .index) ok there (c .args .from .place) (take (c .args .from .depth) (c .args .types .now)) near (way ok there)
           (none-meant (c .allowed .result) (c .in-rest .not-Some) ∙ c .allowed .ensures);
     }
 
@@ -48,7 +48,7 @@ returns-in-Ask c =
     let a = allowed-some (program-in b) (function-in b) ts (record-at (function-in b) (c .args .from .place)) (meant (c .in-Some .said)) (c .in-Some .ensures tt) in
     record {
       nearer = (c .pass-test-place .ensures .nearer .0, c .pass-test-place .ensures .nearer .1, deep);
-      leads = λ ok there way. c .pass-test-place .ensures .leads ok there (omega arith, a .0 ∙ ap Some (ap meant (c .in-Ask .is))) way;
+      leads = λ way ok there. c .pass-test-place .ensures .leads way (omega arith, a .0 ∙ ap Some (ap meant (c .in-Ask .is))) ok there;
     }
 
 pub returns-in-rest-said : need.returns-in-rest-said
@@ -59,7 +59,7 @@ returns-in-rest-said c =
     let a = allowed-some (program-in b) (function-in b) ts (record-at (function-in b) (c .args .from .place)) (meant (c .in-Some .said)) (c .in-Some .ensures tt) in
     record {
       nearer = (omega arith, omega arith, c .bind-depth .ensures .depth .1);
-      leads = λ ok there way.
+      leads = λ way ok there.
           toward-plain (program-in b) (function-in b) (c .args .index) ok there (c .args .from .place) (c .args .from .place + 1) ts (take (c .bind-depth .result) (c .bind-depth .last .types)) (c .in-Some .said)
-          (add-one (c .args .from .place)) near way (a .0) (c .in-rest-said .not-Ask) (c .bind-depth .ensures .types);
+          (add-one (c .args .from .place)) near (way ok there) (a .0) (c .in-rest-said .not-Ask) (c .bind-depth .ensures .types);
     }

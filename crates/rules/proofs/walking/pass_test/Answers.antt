@@ -25,8 +25,8 @@ returns-then-ahead-yes c =
     let low : c .changes-change .result .slot < d = omega (arith, c .changes-change .ensures .slot, length-take d ts) in
     record {
       nearer = (omega arith, omega arith);
-      leads = λ ok there tests way.
-          toward-yes (program-in b) (function-in b) (c .args .index) ok there (c .args .from .place) (take d ts) (c .args .test) (c .args .yes) (c .args .no) way tests
+      leads = λ way tests ok there.
+          toward-yes (program-in b) (function-in b) (c .args .index) ok there (c .args .from .place) (take d ts) (c .args .test) (c .args .yes) (c .args .no) (way ok there) tests
           (c .args .from .place + 1) (take d (set ts (c .changes-change .result .slot) (c .changes-change .result .ty))) (add-one (c .args .from .place)) (omega arith)
           (front-changed d ts (yes-types (program-in b) (function-in b) (take d ts) (c .args .test)) (c .changes-change .result .slot) (c .changes-change .result .ty) low (c .changes-change .ensures .types));
     }
@@ -37,8 +37,8 @@ returns-then-ahead-yes-2 c =
     let near : c .args .from .place < c .args .index = search needs in
     record {
       nearer = (omega arith, omega arith);
-      leads = λ ok there tests way.
-          toward-no (program-in b) (function-in b) (c .args .index) ok there (c .args .from .place) (take (c .args .from .depth) (c .args .types .now)) (c .args .test) (c .args .yes) (c .args .no) way tests
+      leads = λ way tests ok there.
+          toward-no (program-in b) (function-in b) (c .args .index) ok there (c .args .from .place) (take (c .args .from .depth) (c .args .types .now)) (c .args .test) (c .args .yes) (c .args .no) (way ok there) tests
           (c .args .from .place + 1 + c .args .yes) (ap (λ n. n + c .args .yes) (add-one (c .args .from .place))) (omega arith) (omega arith);
     }
 
@@ -48,7 +48,7 @@ returns-else-ahead-yes-2 c =
     let near : c .args .from .place < c .args .index = search needs in
     record {
       nearer = (omega arith, omega arith);
-      leads = λ ok there tests way.
-          toward-behind (program-in b) (function-in b) (c .args .index) ok there (c .args .from .place) (take (c .args .from .depth) (c .args .types .now)) (c .args .test) (c .args .yes) (c .args .no) way tests
+      leads = λ way tests ok there.
+          toward-behind (program-in b) (function-in b) (c .args .index) ok there (c .args .from .place) (take (c .args .from .depth) (c .args .types .now)) (c .args .test) (c .args .yes) (c .args .no) (way ok there) tests
           (c .args .from .place + 1 + c .args .yes + c .args .no) (ap (λ n. n + c .args .yes + c .args .no) (add-one (c .args .from .place))) (omega arith);
     }

@@ -1,11 +1,8 @@
-use Rattle.rules.proofs.Seen.{field-past, field-some, field-none}
+use Rattle.rules.proofs.Seen.{field-some, field-none}
 use Rattle.rules.proofs.body.Body.field.Needs as need
 
-pub returns-then-f-ge8 : need.returns-then-f-ge8
-returns-then-f-ge8 c = field-past (c .args .self .table) (c .args .s) (c .args .f) (c .if-f-ge8 .taken)
-
 pub returns-in-Some : need.returns-in-Some
-returns-in-Some c = field-some (c .args .self .table) (c .args .s) (c .args .f) (c .in-Some .field) (c .if-f-ge8 .left) (c .in-Some .ensures tt)
+returns-in-Some c = field-some (c .args .self .table) (c .args .s) (c .args .f) (c .in-Some .field) (c .in-Some .ensures tt)
 
 pub returns-in-None : need.returns-in-None
-returns-in-None c = field-none (c .args .self .table) (c .args .s) (c .args .f) (c .if-f-ge8 .left) (c .in-None .ensures tt)
+returns-in-None c = field-none (c .args .self .table) (c .args .s) (c .args .f) (c .in-None .ensures tt)

@@ -1,8 +1,6 @@
-use native.Mathlib.Omega.{arith}
-use Rattle.rules.proofs.Seen.{params-count}
+use Rattle.rules.specs.Seen.{seen}
 use Rattle.rules.proofs.body.Body.params.Needs as need
 
 pub returns : need.returns
-returns c =
-    let k = params-count (c .args .self .table) (c .args .n) (c .params .result) (c .params .ensures) in
-    record { value = omega arith; few = omega arith }
+unfolding seen
+returns c = record { value = c .params .ensures .value; few = c .params .ensures .bound }
