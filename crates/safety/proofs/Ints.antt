@@ -11,7 +11,7 @@ use Rattle.std.specs.declared.option.Option.the-variants.{Some, None}
 use Rattle.std.specs.declared.result.Result.the-variants.{Ok}
 use Rattle.table.specs.declared.records.Test.{Test}
 use Rattle.table.specs.Records.{Op, New, Null, Int, Share, Own, Get, Take, Set, Add, Call, Fork, Return, Again, Join, Emit, Ask, pick, operand, slot-byte, number-of, form-of, fits, op-of, test-of, asked-by, decoded}
-use Rattle.table.specs.Program.{Function, Program, program, function-count, function-at, record-count, record-at, record-place}
+use Rattle.table.specs.Program.{Function, Program, program, function-total, function-at, record-total, record-at, record-place}
 use Rattle.table.proofs.Each.{listing-all}
 use Rattle.rules.specs.Rules.{no-function, callee}
 use Rattle.rules.specs.Rules as R
@@ -84,5 +84,5 @@ Low-program p = (n i : ℕ) → Low-record (R.record-at (callee p n) i)
 
 pub program-low : (b : List ℕ) (p : Program) → program b ≡ Ok p → Low-program p
 program-low b p h = subst Low-program (opened b p h .1)
-    (listing-all (λ (fn : Function). (i : ℕ) → Low-record (R.record-at fn i)) no-function (function-count b) (function-at b)
-    (λ n _. listing-all Low-record None (record-count b n) (record-at b n) (λ i _. decoded-low (take 12 (drop (record-place b n i) b))) tt) (λ i. tt))
+    (listing-all (λ (fn : Function). (i : ℕ) → Low-record (R.record-at fn i)) no-function (function-total b) (function-at b)
+    (λ n _. listing-all Low-record None (record-total b n) (record-at b n) (λ i _. decoded-low (take 12 (drop (record-place b n i) b))) tt) (λ i. tt))

@@ -1,24 +1,21 @@
 -- Every table that is read and accepted keeps the promise.
-use mathlib.Core.Path.{_≡_, refl, sym, ap, subst, _∙_}
-use mathlib.Core.Bool.{Bool, true}
+use mathlib.Core.Path.{_≡_, refl, sym, subst}
 use mathlib.Core.List.{List, [], _∷_}
 use Prim.Native.Nat.{ℕ, _<_, _≤_}
 use lib.Dec.{eqb}
-use Rattle.std.proofs.shelf.Tests.{eqb-true, le-leb, lt-ltb}
-use Rattle.std.specs.declared.result.Result.{Result}
-use Rattle.std.specs.declared.result.Result.the-variants.{Ok, Err}
-use Rattle.table.specs.declared.fault.Fault.{Fault}
+use Rattle.std.proofs.shelf.Tests.{eqb-true, le-ltb, lt-ltb}
+use Rattle.std.specs.declared.result.Result.the-variants.{Ok}
 use Rattle.table.specs.declared.fault.Place.the-variants.{Nothing}
 use Rattle.table.specs.declared.types.Ty.{Ty}
-use Rattle.table.specs.Faults.{Passes, need, _>>=_}
-use Rattle.table.specs.Program.{Program, program}
+use Rattle.table.specs.Faults.{need}
+use Rattle.table.specs.Program.{Program}
 use Rattle.table.proofs.Each.{ok-then, need-true}
 use Rattle.rules.specs.Scopes.{verdict}
 use Rattle.rules.specs.Formed.{Formed, Shaped}
 use Rattle.rules.proofs.Formed.{program-stands}
-use Rattle.memory.specs.Model.{Store, countOf, hasObject}
+use Rattle.memory.specs.Model.{Store, countOf}
 use Rattle.machine.specs.World.{World, starting, started}
-use Rattle.safety.specs.Checked.{Checked, types}
+use Rattle.safety.specs.Checked.{Checked}
 use Rattle.safety.specs.Notes.{notes}
 use Rattle.safety.specs.Owners.{tasks-owning, owners-of, frames-known, owners}
 use Rattle.safety.specs.Runs.{runs, Ran, ran-step, ran, turns-of}
@@ -41,7 +38,7 @@ reached p ck m W turns h =
 
 -- owners is not refused
 answered : (p : Program) (W : World) (scratch o : ℕ) → verdict p ≡ Ok tt → frames-known p W ≡ Ok tt → 128 ≤ scratch → o < countOf (W .memory) → owners scratch p W o ≡ Ok (owners-of p W o)
-answered p W scratch o v k l h = rw (le-leb 128 scratch l, v, lt-ltb o (countOf (W .memory)) h, k) refl
+answered p W scratch o v k l h = rw (le-ltb scratch 128 l, v, lt-ltb o (countOf (W .memory)) h, k) refl
 
 pub accepted-safe : (p : Program) → Formed p → Shaped p → verdict p ≡ Ok tt → Safe p
 accepted-safe p formed shaped v m W turns h =

@@ -1,11 +1,11 @@
 -- How many slots own an object.
-use mathlib.Core.Bool.{Bool, true, false, cond, _&&_, _||_}
+use mathlib.Core.Bool.{Bool, true, cond, _&&_, _||_}
 use mathlib.Core.List.{List, [], _∷_}
 use Prim.Native.Nat.{ℕ, _+_}
-use lib.Dec.{leb, eqb}
+use lib.Dec.{eqb}
 use lib.ListN.{length}
 use Rattle.std.specs.declared.result.Result.{Result}
-use Rattle.std.specs.declared.result.Result.the-variants.{Ok, Err}
+use Rattle.std.specs.declared.result.Result.the-variants.{Ok}
 use Rattle.table.specs.declared.types.Ty.{Ty}
 use Rattle.table.specs.declared.fault.Fault.{Fault}
 use Rattle.table.specs.declared.fault.Place.the-variants.{Nothing, Thread}
@@ -13,7 +13,8 @@ use Rattle.table.specs.Faults.{Passes, need, each, _>>=_}
 use Rattle.table.specs.Types.{is-owned, is-pristine}
 use Rattle.table.specs.Program.{Program}
 use Rattle.rules.specs.Rules.{callee}
-use Rattle.rules.specs.Scopes.{before, verdict}
+use Rattle.rules.specs.Scopes.{before}
+use Rattle.rules.specs.Checked.{checked}
 use Rattle.memory.specs.Model.{hasObject}
 use Rattle.machine.specs.declared.threads.Slot.{Slot}
 use Rattle.machine.specs.declared.threads.Slot.the-variants.{Empty, Null, Number, Reference}
@@ -59,11 +60,7 @@ all-in-table p (F ∷ Fs) = in-table p F && all-in-table p Fs
 abbrev pub frames-known : Program → World → Passes
 frames-known p W = each (length (W .tasks)) (λ i. need (all-in-table p (task W i .frames)) 69 (Thread i))
 
--- what check answers, with scratch for so many types: 30 for too few, and then the verdict
-abbrev pub checked : ℕ → Program → Passes
-checked scratch p = need (leb 128 scratch) 30 Nothing >>= λ _. verdict p
-
--- refused as check is; then 63: no such object; then 69
+-- with scratch for so many types; refused as the check is, then 63: no such object, then 69
 abbrev pub owners : ℕ → Program → World → ℕ → Result ℕ Fault
 owners scratch p W o =
     checked scratch p >>= λ _.
