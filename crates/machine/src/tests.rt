@@ -2,12 +2,12 @@
 ghost use mathlib.Core.Path.{_≡_};
 ghost use mathlib.Core.Bool.{true, cond};
 ghost use Prim.Native.Nat.{ℕ};
-ghost use Rattle.table.specs.declared.records.Test.the-variants.{Nil, Same, Equal, Less, Stable};
+ghost use Rattle.table.specs.declared.records.Test.the-variants.{Nil, Same, Equal, Less, Try, Fix, Swap, Stable};
 ghost use Rattle.table.specs.Program.{Program};
 ghost use Rattle.table.specs.Reading.{program-of};
 ghost use Rattle.memory.specs.Model.{Store, hasCell};
 ghost use Rattle.machine.specs.Tests.{trial};
-ghost use Rattle.machine.specs.Trying.{answered, exchanged, exchanged-store};
+ghost use Rattle.machine.specs.Trying.{answered, answered-store, settled, settled-store};
 use super::frames::require;
 use super::reading::refers;
 use super::reading::resolve;
@@ -65,21 +65,22 @@ pub(crate) fn less(frame: Frame, x: u8, y: u8) -> Result<Answer, u8>
     Ok(told(frame, a.word() < b.word()))
 }
 
-// Exchanges a cell that is there; 51 where a word is none.
-fn exchange<M: Memory>(
+// Exchanges a cell that is there, and says whether it did; a yes goes on with the frame. 51 where a word is none.
+fn settle<M: Memory>(
     memory: &mut M,
+    frame: Frame,
     object: u32,
     f: u8,
     expected: u32,
     new: u32,
     mark: bool,
-) -> Result<bool, u8>
+) -> Result<Answer, u8>
     requires { ⌜ hasCell (M·Memory .model (now memory)) object f ≡ true ⌝ }
-    ensures value { λ r. ⌜ r ≡ exchanged (M·Memory .model (now (memory .entry))) object f expected new ⌝ }
-    ensures after { λ r. ⌜ M·Memory .model (now (memory .exit)) ≡ exchanged-store (M·Memory .model (now (memory .entry))) object f expected new mark ⌝ }
+    ensures value { λ r. ⌜ r ≡ settled (M·Memory .model (now (memory .entry))) frame object f expected new ⌝ }
+    ensures after { λ r. ⌜ M·Memory .model (now (memory .exit)) ≡ settled-store (M·Memory .model (now (memory .entry))) object f expected new mark ⌝ }
 {
     match memory.exchange(object as usize, f as usize, expected, new, mark) {
-        Ok(yes) => Ok(yes),
+        Ok(yes) => Ok(told(frame, yes)),
         Err(_) => Err(51),
     }
 }
@@ -100,4 +101,27 @@ pub(crate) fn stable<M: Memory>(
         return Ok(Answer::Halts);
     };
     Ok(told(frame, target.cell.mark))
+}
+
+// Marks x.f with y in it, where it is unmarked.
+pub(crate) fn attempt<M: Memory>(
+    table: &Table,
+    memory: &mut M,
+    frame: Frame,
+    x: u8,
+    f: u8,
+    y: u8,
+) -> Result<Answer, u8>
+    ensures value { λ r. ⌜ r ≡ answered frame (trial (program-of (now (table .entry))) (M·Memory .model (now (memory .entry))) (frame .slots) (Try x f y)) ⌝ }
+    ensures after { λ r. ⌜ M·Memory .model (now (memory .exit)) ≡ answered-store (M·Memory .model (now (memory .entry))) (trial (program-of (now (table .entry))) (M·Memory .model (now (memory .entry))) (frame .slots) (Try x f y)) ⌝ }
+{
+    let (a, b) = (frame.at(x), frame.at(y));
+    require(frame.gives(x) && frame.gives(y), 71)?;
+    require(a.is_reference() && b.is_reference() && refers(table, memory, a, f), 72)?;
+    let Some(target) = resolve(table, memory, a, f)? else {
+        return Ok(Answer::Halts);
+    };
+    let new = b.cell_word()?;
+    let spent = frame.with(y, b.left(target.field.ty));
+    settle(memory, spent, target.object, f, target.cell.word, new, true)
 }
