@@ -1,17 +1,19 @@
 // The tests: what each answers, and what a yes leaves.
 ghost use mathlib.Core.Path.{_≡_};
-ghost use mathlib.Core.Bool.{true, cond};
+ghost use mathlib.Core.Bool.{true, cond, _&&_};
 ghost use Prim.Native.Nat.{ℕ};
 ghost use Rattle.table.specs.declared.records.Test.the-variants.{Nil, Same, Equal, Less, Try, Fix, Swap, Stable};
 ghost use Rattle.table.specs.Program.{Program};
 ghost use Rattle.table.specs.Reading.{program-of};
 ghost use Rattle.memory.specs.Model.{Store, hasCell};
+ghost use Rattle.machine.specs.Values.{is-reference};
 ghost use Rattle.machine.specs.Tests.{trial};
 ghost use Rattle.machine.specs.Trying.{answered, answered-store, settled, settled-store};
 use super::frames::require;
 use super::reading::refers;
 use super::reading::resolve;
 use super::threads::Frame;
+use super::threads::Slot;
 use memory::keeping::Memory;
 use table::Table;
 
@@ -117,11 +119,70 @@ pub(crate) fn attempt<M: Memory>(
 {
     let (a, b) = (frame.at(x), frame.at(y));
     require(frame.gives(x) && frame.gives(y), 71)?;
-    require(a.is_reference() && b.is_reference() && refers(table, memory, a, f), 72)?;
+    require(
+        a.is_reference() && b.is_reference() && refers(table, memory, a, f),
+        72,
+    )?;
     let Some(target) = resolve(table, memory, a, f)? else {
         return Ok(Answer::Halts);
     };
     let new = b.cell_word()?;
     let spent = frame.with(y, b.left(target.field.ty));
     settle(memory, spent, target.object, f, target.cell.word, new, true)
+}
+
+// Marks x.f where it is unmarked and equals y.
+pub(crate) fn fix<M: Memory>(
+    table: &Table,
+    memory: &mut M,
+    frame: Frame,
+    x: u8,
+    f: u8,
+    y: u8,
+) -> Result<Answer, u8>
+    ensures value { λ r. ⌜ r ≡ answered frame (trial (program-of (now (table .entry))) (M·Memory .model (now (memory .entry))) (frame .slots) (Fix x f y)) ⌝ }
+    ensures after { λ r. ⌜ M·Memory .model (now (memory .exit)) ≡ answered-store (M·Memory .model (now (memory .entry))) (trial (program-of (now (table .entry))) (M·Memory .model (now (memory .entry))) (frame .slots) (Fix x f y)) ⌝ }
+{
+    let (a, b) = (frame.at(x), frame.at(y));
+    require(frame.gives(x) && frame.gives(y), 71)?;
+    require(
+        a.is_reference() && b.is_reference() && refers(table, memory, a, f),
+        72,
+    )?;
+    let Some(target) = resolve(table, memory, a, f)? else {
+        return Ok(Answer::Halts);
+    };
+    let word = b.cell_word()?;
+    settle(memory, frame, target.object, f, word, word, true)
+}
+
+// Puts w into x.f where it is unmarked and holds y.
+pub(crate) fn swap<M: Memory>(
+    table: &Table,
+    memory: &mut M,
+    frame: Frame,
+    x: u8,
+    f: u8,
+    y: u8,
+    w: u8,
+) -> Result<Answer, u8>
+    ensures value { λ r. ⌜ r ≡ answered frame (trial (program-of (now (table .entry))) (M·Memory .model (now (memory .entry))) (frame .slots) (Swap x f y w)) ⌝ }
+    ensures after { λ r. ⌜ M·Memory .model (now (memory .exit)) ≡ answered-store (M·Memory .model (now (memory .entry))) (trial (program-of (now (table .entry))) (M·Memory .model (now (memory .entry))) (frame .slots) (Swap x f y w)) ⌝ }
+{
+    let (a, b, d) = (frame.at(x), frame.at(y), frame.at(w));
+    require(frame.gives(x) && frame.gives(y) && frame.gives(w), 71)?;
+    require(references(a, b, d) && refers(table, memory, a, f), 72)?;
+    let Some(target) = resolve(table, memory, a, f)? else {
+        return Ok(Answer::Halts);
+    };
+    let old = b.cell_word()?;
+    let new = d.cell_word()?;
+    let spent = frame.with(w, d.left(target.field.ty));
+    settle(memory, spent, target.object, f, old, new, false)
+}
+
+fn references(a: Slot, b: Slot, d: Slot) -> bool
+    ensures { λ r. ⌜ r ≡ (is-reference a && is-reference b && is-reference d) ⌝ }
+{
+    a.is_reference() && b.is_reference() && d.is_reference()
 }

@@ -1,19 +1,11 @@
-use mathlib.Core.Path.{_≡_, sym, ap, _∙_}
-use mathlib.Core.Bool.{true, _&&_}
+use mathlib.Core.Path.{_≡_, refl}
+use mathlib.Core.Bool.{true, false, _&&_}
 use borrow.Author.Needs.{needs}
-use lib.ListN.{set}
-use Rattle.std.specs.declared.option.Option.the-variants.{Some}
-use Rattle.std.specs.declared.result.Result.the-variants.{Ok}
-use Rattle.table.specs.declared.types.Field.{Field}
 use Rattle.table.specs.Reading.{program-of}
-use Rattle.memory.specs.declared.object.Cell.{Cell}
-use Rattle.machine.specs.declared.threads.Slot.{Slot}
-use Rattle.machine.specs.declared.threads.Frame.{Frame}
-use Rattle.machine.specs.Values.{at, given, is-reference, word-of, left}
-use Rattle.machine.specs.Reading.{refers, field-type, cell}
-use Rattle.machine.specs.Seeing.{targeted}
+use Rattle.machine.specs.Values.{at, given, is-reference, word-of}
+use Rattle.machine.specs.Reading.{refers, cell}
 use Rattle.machine.specs.Tests.{spent-into}
-use Rattle.machine.proofs.Settling.{resolved, field-settles, word-made, settled-same, settled-store-same}
+use Rattle.machine.proofs.Settling.{resolved-as, test-settles, word-of-slot, left-of-slot, word-read}
 use Rattle.machine.proofs.tests.attempt.Needs as need
 
 pub returns : need.returns
@@ -25,22 +17,10 @@ returns g c =
     let t = c .in-Some .target in
     let p = program-of (c .args .table .now) in
     let m = g .M·Memory .model (c .args .memory .now) in
+    let n = g .M·Memory .model (c .settle .last .memory) in
     let a : (given (F .slots) x && given (F .slots) y) ≡ true = search needs in
     let b : (is-reference (at (F .slots) x) && is-reference (at (F .slots) y) && refers p m (at (F .slots) x) f) ≡ true = search needs in
-    let h : Ok (Some t) ≡ targeted p m (at (F .slots) x) f =
-    ap Ok (sym (c .in-Some .is)) ∙ c .in-Continue-target .ensures tt .value ∙ ap (λ v. targeted p m v f) (c .at-a .ensures) in
-    let q = resolved p m (at (F .slots) x) f t h in
-    let new : c .in-Continue-new .new ≡ word-of (at (F .slots) y) =
-    word-made (c .in-Continue-new .new) (word-of (c .at-b .result)) (c .in-Continue-new .ensures tt) ∙ ap word-of (c .at-b .ensures) in
-    let old : t .cell .word ≡ cell p m (at (F .slots) x) f .word = ap (λ (v : Cell). v .word) (q .read ∙ ap (λ v. cell p m v f) (sym (q .named))) in
-    let rest : c .left .result ≡ left (field-type p m (at (F .slots) x) f) (at (F .slots) y) =
-    c .left .ensures ∙ ap (λ v. left (t .field .ty) v) (c .at-b .ensures) ∙ ap (λ (d : Field). left (d .ty) (at (F .slots) y)) (q .typed) in
-    let ws = spent-into p m (F .slots) x f y in
-    let frame : c .with-spent .result ≡ record { function = F .function; index = F .index; slots = ws } =
-    c .with-spent .ensures ∙ ap (λ (v : Slot). record { function = F .function; index = F .index; slots = set (F .slots) y v }) rest in
-    let done = field-settles p m F x f (given (F .slots) x && given (F .slots) y) (is-reference (at (F .slots) x) && is-reference (at (F .slots) y))
-    (cell p m (at (F .slots) x) f .word) (word-of (at (F .slots) y)) true ws t a b q in
-    record {
-      value = c .settle .ensures .value ∙ settled-same m (c .with-spent .result) (record { function = F .function; index = F .index; slots = ws }) (t .object) f (t .cell .word) (cell p m (at (F .slots) x) f .word) (c .in-Continue-new .new) (word-of (at (F .slots) y)) frame old new ∙ done .0;
-      after = c .settle .ensures .after ∙ settled-store-same m (t .object) f (t .cell .word) (cell p m (at (F .slots) x) f .word) (c .in-Continue-new .new) (word-of (at (F .slots) y)) true old new ∙ done .1;
-    }
+    let q = resolved-as p m (c .at-a .result) (at (F .slots) x) f (c .in-Continue-target .field-0) t (c .in-Some .is) (c .in-Continue-target .ensures tt .value) (c .at-a .ensures) in
+    let done = test-settles p m n F (c .with-spent .result) x f (given (F .slots) x && given (F .slots) y) (is-reference (at (F .slots) x) && is-reference (at (F .slots) y)) (t .cell .word) (cell p m (at (F .slots) x) f .word) (c .in-Continue-new .new) (word-of (at (F .slots) y)) true (spent-into p m (F .slots) x f y) t (c .settle .result) a b q
+    (left-of-slot p m F (c .with-spent .result) x f y (c .at-b .result) (c .left .result) t q (c .left .ensures) (c .at-b .ensures) (c .with-spent .ensures)) (word-read p m (at (F .slots) x) f t q) (word-of-slot (c .in-Continue-new .new) (c .at-b .result) (at (F .slots) y) (c .in-Continue-new .ensures tt) (c .at-b .ensures)) (c .settle .ensures .value) (c .settle .ensures .after) in
+    record { value = done .0; after = done .1 }
