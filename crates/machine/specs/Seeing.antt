@@ -1,7 +1,7 @@
 -- The field that a value's object has at a place, if both are there.
 use mathlib.Core.Path.{_≡_}
 use mathlib.Core.Bool.{Bool, true, cond}
-use Prim.Native.Nat.{ℕ}
+use Prim.Native.Nat.{ℕ, min}
 use lib.Dec.{ltb}
 use lib.ListN.{length}
 use Rattle.std.specs.declared.option.Option.{Option}
@@ -14,6 +14,7 @@ use Rattle.memory.specs.Model.{Store, hasObject, hasCell, cellAt}
 use Rattle.machine.specs.declared.threads.Slot.{Slot}
 use Rattle.machine.specs.declared.threads.Slot.the-variants.{Empty, Null, Number, Reference}
 use Rattle.machine.specs.declared.reading.Target.{Target}
+use Rattle.machine.specs.declared.reading.Pair.{Pair}
 use Rattle.machine.specs.Reading.{fields, field}
 
 abbrev pub seen : Program → Store → Slot → ℕ → Option Field
@@ -37,3 +38,17 @@ abbrev pub In-memory : Store → ℕ → Result (Option Target) ℕ → Type 0
 In-memory m f (Ok None) = Unit {0}
 In-memory m f (Ok (Some t)) = hasCell m (t .object) f ≡ true
 In-memory m f (Err n) = Unit {0}
+
+-- the targets of two values: 73 of either comes before 74, and none where one refers to nothing
+abbrev pub paired : Result (Option Target) ℕ → Result (Option Target) ℕ → Result (Option Pair) ℕ
+paired (Err n) (Err k) = Err (min n k)
+paired (Err n) (Ok o) = Err n
+paired (Ok o) (Err k) = Err k
+paired (Ok None) (Ok o) = Ok None
+paired (Ok (Some s)) (Ok None) = Ok None
+paired (Ok (Some s)) (Ok (Some t)) = Ok (Some (record { from = s; to = t }))
+
+abbrev pub Pair-in-memory : Store → ℕ → Result (Option Pair) ℕ → Type 0
+Pair-in-memory m f (Ok None) = Unit {0}
+Pair-in-memory m f (Ok (Some t)) = hasCell m (t .from .object) f ≡ true
+Pair-in-memory m f (Err n) = Unit {0}

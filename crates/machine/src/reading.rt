@@ -3,12 +3,13 @@ ghost use mathlib.Core.Path.{_≡_};
 ghost use mathlib.Core.Bool.{true};
 ghost use Prim.Native.Nat.{_≤_, _<_};
 ghost use lib.ListN.{length};
+ghost use Rattle.std.specs.declared.result.Result.the-variants.{Err};
 ghost use Rattle.table.specs.Program.{Program};
 ghost use Rattle.table.specs.Reading.{program-of};
 ghost use Rattle.memory.specs.Model.{objectAt, cellAt, hasObject};
 ghost use Rattle.machine.specs.declared.threads.Slot.the-variants.{Reference};
 ghost use Rattle.machine.specs.Reading.{fields, field, has-object, has-field, refers};
-ghost use Rattle.machine.specs.Seeing.{seen, targeted, In-memory};
+ghost use Rattle.machine.specs.Seeing.{seen, targeted, In-memory, paired, Pair-in-memory};
 use super::threads::Slot;
 use memory::keeping::Memory;
 use memory::object::Cell;
@@ -152,4 +153,46 @@ pub(crate) fn resolve<M: Memory>(
         field,
         cell,
     }))
+}
+
+// The targets of a test on two fields.
+#[derive(Clone, Copy, Drop)]
+pub struct Pair {
+    pub from: Target,
+    pub to: Target,
+}
+
+// Both targets: 73 of either comes before 74.
+pub(crate) fn resolve_both<M: Memory>(
+    table: &Table,
+    memory: &M,
+    a: Slot,
+    f: u8,
+    b: Slot,
+    g: u8,
+) -> Result<Option<Pair>, u8>
+    ensures value { λ r. ⌜ r ≡ paired (targeted (program-of (now (table .entry))) (M·Memory .model (now (memory .entry))) a f) (targeted (program-of (now (table .entry))) (M·Memory .model (now (memory .entry))) b g) ⌝ }
+    ensures there { λ r. ⌜ Pair-in-memory (M·Memory .model (now (memory .entry))) f r ⌝ }
+{
+    match resolve(table, memory, a, f) {
+        Err(n) => Err(first_of(n, resolve(table, memory, b, g))),
+        Ok(None) => {
+            resolve(table, memory, b, g)?;
+            Ok(None)
+        }
+        Ok(Some(from)) => match resolve(table, memory, b, g)? {
+            Some(to) => Ok(Some(Pair { from, to })),
+            None => Ok(None),
+        },
+    }
+}
+
+// The lower of a number and of another refusal's, if there is one.
+fn first_of(n: u8, other: Result<Option<Target>, u8>) -> u8
+    ensures { λ r. ⌜ Err r ≡ paired (Err n) other ⌝ }
+{
+    match other {
+        Ok(_) => n,
+        Err(k) => n.min(k),
+    }
 }

@@ -2,16 +2,18 @@
 ghost use mathlib.Core.Path.{_≡_};
 ghost use mathlib.Core.Bool.{true, cond, _&&_};
 ghost use Prim.Native.Nat.{ℕ};
-ghost use Rattle.table.specs.declared.records.Test.the-variants.{Nil, Same, Equal, Less, Try, Fix, Swap, Stable};
+ghost use Rattle.table.specs.declared.records.Test.the-variants.{Nil, Same, Equal, Less, Link, Unlink, Swap, Try, Fix, Stable};
 ghost use Rattle.table.specs.Program.{Program};
 ghost use Rattle.table.specs.Reading.{program-of};
 ghost use Rattle.memory.specs.Model.{Store, hasCell};
 ghost use Rattle.machine.specs.Values.{is-reference};
+ghost use Rattle.machine.specs.Reading.{refers};
 ghost use Rattle.machine.specs.Tests.{trial};
 ghost use Rattle.machine.specs.Trying.{answered, answered-store, settled, settled-store};
 use super::frames::require;
 use super::reading::refers;
 use super::reading::resolve;
+use super::reading::resolve_both;
 use super::threads::Frame;
 use super::threads::Slot;
 use memory::keeping::Memory;
@@ -185,4 +187,77 @@ fn references(a: Slot, b: Slot, d: Slot) -> bool
     ensures { λ r. ⌜ r ≡ (is-reference a && is-reference b && is-reference d) ⌝ }
 {
     a.is_reference() && b.is_reference() && d.is_reference()
+}
+
+// Puts y into x.f where it is unmarked and holds the word of y.g.
+pub(crate) fn link<M: Memory>(
+    table: &Table,
+    memory: &mut M,
+    frame: Frame,
+    x: u8,
+    f: u8,
+    y: u8,
+    g: u8,
+) -> Result<Answer, u8>
+    ensures value { λ r. ⌜ r ≡ answered frame (trial (program-of (now (table .entry))) (M·Memory .model (now (memory .entry))) (frame .slots) (Link x f y g)) ⌝ }
+    ensures after { λ r. ⌜ M·Memory .model (now (memory .exit)) ≡ answered-store (M·Memory .model (now (memory .entry))) (trial (program-of (now (table .entry))) (M·Memory .model (now (memory .entry))) (frame .slots) (Link x f y g)) ⌝ }
+{
+    let (a, b) = (frame.at(x), frame.at(y));
+    require(frame.gives(x) && frame.gives(y), 71)?;
+    require(both_refer(table, memory, a, f, b, g), 72)?;
+    let Some(pair) = resolve_both(table, memory, a, f, b, g)? else {
+        return Ok(Answer::Halts);
+    };
+    let new = b.cell_word()?;
+    let spent = frame.with(y, b.left(pair.from.field.ty));
+    settle(
+        memory,
+        spent,
+        pair.from.object,
+        f,
+        pair.to.cell.word,
+        new,
+        false,
+    )
+}
+
+// Puts the word of y.g into x.f where it is unmarked and holds y.
+pub(crate) fn unlink<M: Memory>(
+    table: &Table,
+    memory: &mut M,
+    frame: Frame,
+    x: u8,
+    f: u8,
+    y: u8,
+    g: u8,
+) -> Result<Answer, u8>
+    ensures value { λ r. ⌜ r ≡ answered frame (trial (program-of (now (table .entry))) (M·Memory .model (now (memory .entry))) (frame .slots) (Unlink x f y g)) ⌝ }
+    ensures after { λ r. ⌜ M·Memory .model (now (memory .exit)) ≡ answered-store (M·Memory .model (now (memory .entry))) (trial (program-of (now (table .entry))) (M·Memory .model (now (memory .entry))) (frame .slots) (Unlink x f y g)) ⌝ }
+{
+    let (a, b) = (frame.at(x), frame.at(y));
+    require(frame.gives(x) && frame.gives(y), 71)?;
+    require(both_refer(table, memory, a, f, b, g), 72)?;
+    let Some(pair) = resolve_both(table, memory, a, f, b, g)? else {
+        return Ok(Answer::Halts);
+    };
+    let old = b.cell_word()?;
+    settle(
+        memory,
+        frame,
+        pair.from.object,
+        f,
+        old,
+        pair.to.cell.word,
+        false,
+    )
+}
+
+// Whether two values are references, and their fields too.
+fn both_refer<M: Memory>(table: &Table, memory: &M, a: Slot, f: u8, b: Slot, g: u8) -> bool
+    ensures { λ r. ⌜ r ≡ (is-reference a && is-reference b && refers (program-of (now (table .entry))) (M·Memory .model (now (memory .entry))) a f && refers (program-of (now (table .entry))) (M·Memory .model (now (memory .entry))) b g) ⌝ }
+{
+    a.is_reference()
+        && b.is_reference()
+        && refers(table, memory, a, f)
+        && refers(table, memory, b, g)
 }
