@@ -27,7 +27,8 @@ use Rattle.machine.specs.Values.{at, is-null, is-reference, word-of, left}
 use Rattle.machine.specs.Reading.{fields, field, field-type, cell, has-field, has-object, refers}
 use Rattle.machine.specs.Seeing.{targeted}
 use Rattle.machine.specs.Tests.{Trial, field-asks, exchanges, spent-into}
-use Rattle.machine.specs.Trying.{answered, answered-store, settled, settled-store}
+use Rattle.machine.specs.Steps.{all-words}
+use Rattle.machine.specs.Trying.{unless-failing, answered, answered-store, settled, settled-store}
 
 -- premises that all hold
 pub four-hold : (a b c d : Bool) → a ≡ true → b ≡ true → c ≡ true → d ≡ true → first ((71, a) ∷ (72, b) ∷ (73, c) ∷ (74, d) ∷ []) ≡ None
@@ -165,3 +166,14 @@ none-left (Some t) h = absurd (h t refl)
 
 pub halts-as : (p : Program) (m : Store) (v u : Slot) (f : ℕ) (o : Option Target) → ((t : Target) → o ≡ Some t → ⊥) → Ok o ≡ targeted p m v f → v ≡ u → is-reference u ≡ true → u ≡ Null
 halts-as p m v u f o h e is r = resolved-none p m u f (ap Ok (sym (none-left o h)) ∙ e ∙ ap (λ z. targeted p m z f) is) r
+
+-- a test that writes nothing leaves the memory
+pub looks-only : (m : Store) (q : Trial) → q .memory ≡ m → m ≡ answered-store m q
+looks-only m q h = by (first (q .asks)) (q .halts) (all-words (q .words)) (q .says)
+  where
+    by : (o : Option ℕ) (a b d : Bool) → m ≡ unless-failing o (cond a m (cond b (cond d (q .memory) m) m)) (λ n. m)
+    by None true b d = refl
+    by None false true true = sym h
+    by None false true false = refl
+    by None false false d = refl
+    by (Some n) a b d = refl

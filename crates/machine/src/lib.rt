@@ -1,6 +1,7 @@
 // A machine that runs a table: threads of frames over a memory of objects.
 ghost use Rattle.machine.specs.Clashes.{Clash-law};
 
+mod asking;
 pub mod clashing;
 mod fields;
 mod frames;
