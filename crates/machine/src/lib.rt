@@ -1,4 +1,5 @@
 // A machine that runs a table: threads of frames over a memory of objects.
+#![tactic(auto)]
 ghost use Rattle.machine.specs.Clashes.{ClashLaw};
 
 mod asking;

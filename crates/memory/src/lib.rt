@@ -1,4 +1,5 @@
 // A memory of objects, by its meaning, and two memories that keep it.
+#![tactic(auto)]
 pub mod byte_image;
 pub mod keeping;
 pub mod object;

@@ -1,4 +1,5 @@
 // Reads a table from the standard input, and prints what came of it.
+#![tactic(auto)]
 use report::rehearse;
 use std::io;
 use std::io::Read;

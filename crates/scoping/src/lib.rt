@@ -1,4 +1,5 @@
 // The scope before a record: the records before it are read in turn, with the open blocks in a list.
+#![tactic(auto)]
 ghost use Rattle.std.specs.Prelude.{◌≡◌, ◌<◌, ◌≤◌, ◌∷◌, length, take, None};
 ghost use Rattle.table.specs.Reading.{program_of};
 ghost use Rattle.list.specs.Held.{held, room};

@@ -1,4 +1,5 @@
 // Steps of a table's threads over any memory.
+#![tactic(auto)]
 mod asking;
 mod calls;
 mod clashing;

@@ -1,4 +1,5 @@
 // The bytes of a table, and what they hold. Nothing above this crate reads a byte of a table.
+#![tactic(auto)]
 mod decoding;
 pub mod fault;
 mod forms;

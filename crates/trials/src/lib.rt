@@ -1,4 +1,5 @@
 // The tests of a table's records, over any memory: what each answers, and what a yes leaves.
+#![tactic(auto)]
 ghost use Rattle.std.specs.Prelude.{◌≡◌};
 ghost use Rattle.table.specs.Reading.{program_of};
 ghost use Rattle.machine.specs.Tests.{trial};
