@@ -35,8 +35,8 @@ bounds-types-block t c =
     let long : 16 ≤ length c.args.types.now = c.requires.1.0 in
     omega (arith, k.0, k.1)
 
-pub end-blocks-requires : goal.end-blocks-requires
-end-blocks-requires t c =
+pub end_blocks-requires : goal.end_blocks-requires
+end_blocks-requires t c =
     let hs = held c.args.blocks.now in
     let k = top_deep c.args.depth hs c.in-Some.block c.in-Some.ensures c.requires.1.1.1 in
     let deep : c.args.depth ≤ 16 = c.requires.0 in
@@ -53,9 +53,9 @@ returns-then-count-eq0 t c =
     record {
       state = end_on c.args.place c.args.depth c.args.types.now hs c.in-Some.block c.in-Some.ensures (omega (arith, c.requires.0, c.requires.1.0)) c.if-block-place.false c.requires.1.1.1
           (held c.pop.new.self) _
-          (sym c.following-count.ensures ∙ c.if-count-eq0.true) c.pop.ensures.held c.end-blocks.ensures.state;
-      deep = (omega (arith, k.0, c.end-blocks.ensures.deep.0), c.end-blocks.ensures.deep.1);
-      room = c.end-blocks.ensures.room ∙ c.pop.ensures.room;
+          (sym c.following-count.ensures ∙ c.if-count-eq0.true) c.pop.ensures.held c.end_blocks.ensures.state;
+      deep = (omega (arith, k.0, c.end_blocks.ensures.deep.0), c.end_blocks.ensures.deep.1);
+      room = c.end_blocks.ensures.room ∙ c.pop.ensures.room;
     }
 
 pub returns : goal.returns

@@ -44,8 +44,8 @@ returns-in-err-said c =
       room = refl;
     }
 
-pub open-yes-requires : goal.open-yes-requires
-open-yes-requires c =
+pub open_yes-requires : goal.open_yes-requires
+open_yes-requires c =
     let b = c.args.body in
     let i = c.args.place in
     let d = c.args.depth in
@@ -69,8 +69,8 @@ bind-grown-requires c =
     in
     (k.0, (c.requires.0.0, c.requires.0.1.0))
 
-pub end-blocks-requires : goal.end-blocks-requires
-end-blocks-requires c =
+pub end_blocks-requires : goal.end_blocks-requires
+end_blocks-requires c =
     let low : c.args.place ≤ 255 = c.requires.0.1.1.0 in
     let long : 16 ≤ length c.args.types.now = c.requires.0.1.0 in
     let deep : Deep c.bind-grown.result (stack c.args.blocks.now) = deep_more c.args.depth c.bind-grown.result (stack c.args.blocks.now) c.bind-grown.ensures.depth.0 c.requires.1.0 in
@@ -89,9 +89,9 @@ returns-in-Ask c =
     in
     record {
       value =
-          behind_test b i d ts os q w (meant c.in-ok-said.said) c.in-Ask.test c.in-Ask.yes c.in-Ask.no (i + 1 + c.in-Ask.yes) c.open-yes.new.types _
-          (ap meant c.in-Ask.is) c.in-ok-said.ensures (ap (λ n. n + c.in-Ask.yes) (add-one i)) c.requires.0.0 c.open-yes.ensures.state (c.open-yes.ensures.deep c.requires.1.0);
-      room = c.open-yes.ensures.room;
+          behind_test b i d ts os q w (meant c.in-ok-said.said) c.in-Ask.test c.in-Ask.yes c.in-Ask.no (i + 1 + c.in-Ask.yes) c.open_yes.new.types _
+          (ap meant c.in-Ask.is) c.in-ok-said.ensures (ap (λ n. n + c.in-Ask.yes) (add-one i)) c.requires.0.0 c.open_yes.ensures.state (c.open_yes.ensures.deep c.requires.1.0);
+      room = c.open_yes.ensures.room;
     }
 
 pub returns-in-default : goal.returns-in-default
@@ -107,8 +107,8 @@ returns-in-default c =
     in
     record {
       value =
-          behind_plain b i d ts os q w c.in-ok-said.said (i + 1) c.end-blocks.result (take c.bind-grown.result c.bind-grown.new.types) c.end-blocks.new.types _
-          c.in-default.not-Ask c.in-ok-said.ensures (add-one i) (omega (arith, c.bind-grown.ensures.depth.1, c.end-blocks.ensures.deep.0)) c.bind-grown.ensures.types
-          c.end-blocks.ensures.state c.end-blocks.ensures.deep.1;
-      room = c.end-blocks.ensures.room;
+          behind_plain b i d ts os q w c.in-ok-said.said (i + 1) c.end_blocks.result (take c.bind-grown.result c.bind-grown.new.types) c.end_blocks.new.types _
+          c.in-default.not-Ask c.in-ok-said.ensures (add-one i) (omega (arith, c.bind-grown.ensures.depth.1, c.end_blocks.ensures.deep.0)) c.bind-grown.ensures.types
+          c.end_blocks.ensures.state c.end_blocks.ensures.deep.1;
+      room = c.end_blocks.ensures.room;
     }

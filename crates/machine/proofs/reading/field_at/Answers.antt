@@ -8,14 +8,14 @@ pub returns-in-Some : goal.returns-in-Some
 returns-in-Some g c =
     record {
       value =
-          found_there (fields_of (program_of c.args.table.now) c.kind-of.result) c.args.f no_field c.in-Some.field c.in-Some.ensures
-          ∙ ap (λ k. get_or (fields_of (program_of c.args.table.now) k) c.args.f no_field) c.kind-of.ensures;
+          found_there (fields_of (program_of c.args.table.now) c.kind_of.result) c.args.f no_field c.in-Some.field c.in-Some.ensures
+          ∙ ap (λ k. get_or (fields_of (program_of c.args.table.now) k) c.args.f no_field) c.kind_of.ensures;
     }
 
 pub returns-in-None : goal.returns-in-None
 returns-in-None g c =
     record {
       value =
-          found_none (fields_of (program_of c.args.table.now) c.kind-of.result) c.args.f no_field c.in-None.ensures
-          ∙ ap (λ k. get_or (fields_of (program_of c.args.table.now) k) c.args.f no_field) c.kind-of.ensures;
+          found_none (fields_of (program_of c.args.table.now) c.kind_of.result) c.args.f no_field c.in-None.ensures
+          ∙ ap (λ k. get_or (fields_of (program_of c.args.table.now) k) c.args.f no_field) c.kind_of.ensures;
     }

@@ -6,8 +6,8 @@ use Rattle.safety.specs.Owners.{frames_owning, types_before}
 use Rattle.owning.proofs.Sums.{moves, ends, in_table_at}
 use Rattle.owning.proofs.counting.frames_owning.Goals as goal
 
-pub frame-owning-total-requires : goal.frame-owning-total-requires
-frame-owning-total-requires c =
+pub frame_owning-total-requires : goal.frame_owning-total-requires
+frame_owning-total-requires c =
     (c.requires.0, (in_table_at (program_of c.args.table.now) c.args.frames.now c.loop-frame.frame-index c.requires.1.0 c.loop-frame-test.true, omega arith))
 
 pub loop-frame-preserved : goal.loop-frame-preserved
@@ -18,8 +18,8 @@ loop-frame-preserved c =
     let types = types_before (program_of c.args.table.now) in
     let more = frames_owning types (drop (i + 1) Fs) o in (
       omega arith,
-      moves c.loop-frame.total c.frame-owning-total.result more (frames_owning types (drop i Fs) o) (frames_owning types Fs o) c.loop-frame.invariant.1
-          (at_drop_more (λ Gs. frames_owning types Gs o) Fs i no_frame c.loop-frame-test.true ∙ ap (λ n. n + more) (sym c.frame-owning-total.ensures.value)),
+      moves c.loop-frame.total c.frame_owning-total.result more (frames_owning types (drop i Fs) o) (frames_owning types Fs o) c.loop-frame.invariant.1
+          (at_drop_more (λ Gs. frames_owning types Gs o) Fs i no_frame c.loop-frame-test.true ∙ ap (λ n. n + more) (sym c.frame_owning-total.ensures.value)),
     )
 
 pub returns : goal.returns

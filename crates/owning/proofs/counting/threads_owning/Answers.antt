@@ -6,13 +6,13 @@ use Rattle.safety.specs.Owners.{frames_owning, tasks_owning, types_before, all_i
 use Rattle.owning.proofs.Sums.{no_thread, moves, ends, frames_there}
 use Rattle.owning.proofs.counting.threads_owning.Goals as goal
 
-pub frames-owning-total-requires : goal.frames-owning-total-requires
-frames-owning-total-requires c =
+pub frames_owning-total-requires : goal.frames_owning-total-requires
+frames_owning-total-requires c =
     let p = program_of c.args.table.now in (
       c.requires.0,
       (
-        ap (all_in_table p) c.in-use.ensures.value ∙ frames_there p c.args.threads.now (record { capacity = 0; objects = [] }) c.loop-thread.thread-index (c.requires.1.0 (record { capacity = 0; objects = [] })) c.loop-thread-test.true,
-        (omega arith, c.in-use.ensures.few),
+        ap (all_in_table p) c.in_use.ensures.value ∙ frames_there p c.args.threads.now (record { capacity = 0; objects = [] }) c.loop-thread.thread-index (c.requires.1.0 (record { capacity = 0; objects = [] })) c.loop-thread-test.true,
+        (omega arith, c.in_use.ensures.few),
       ),
     )
 
@@ -24,9 +24,9 @@ loop-thread-preserved c =
     let types = types_before (program_of c.args.table.now) in
     let more = tasks_owning types (map task_of (drop (i + 1) ts)) o in (
       omega arith,
-      moves c.loop-thread.total c.frames-owning-total.result more (tasks_owning types (map task_of (drop i ts)) o) (tasks_owning types (map task_of ts) o) c.loop-thread.invariant.1
+      moves c.loop-thread.total c.frames_owning-total.result more (tasks_owning types (map task_of (drop i ts)) o) (tasks_owning types (map task_of ts) o) c.loop-thread.invariant.1
           (at_drop_more (λ us. tasks_owning types (map task_of us) o) ts i no_thread c.loop-thread-test.true
-          ∙ ap (λ n. n + more) (sym (c.frames-owning-total.ensures.value ∙ ap (λ Fs. frames_owning types Fs o) c.in-use.ensures.value))),
+          ∙ ap (λ n. n + more) (sym (c.frames_owning-total.ensures.value ∙ ap (λ Fs. frames_owning types Fs o) c.in_use.ensures.value))),
     )
 
 pub returns : goal.returns

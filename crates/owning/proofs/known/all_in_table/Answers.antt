@@ -5,14 +5,14 @@ use Rattle.safety.specs.Owners.{all_in_table}
 use Rattle.owning.proofs.Sums.{all_stops, all_next}
 use Rattle.owning.proofs.known.all_in_table.Goals as goal
 
-pub returns-then-not-in-table : goal.returns-then-not-in-table
-returns-then-not-in-table c =
-    all_stops (program_of c.args.table.now) c.args.frames.now c.loop-frame.frame-index c.loop-frame-test.true c.if-not-in-table.ensures
+pub returns-then-not-in_table : goal.returns-then-not-in_table
+returns-then-not-in_table c =
+    all_stops (program_of c.args.table.now) c.args.frames.now c.loop-frame.frame-index c.loop-frame-test.true c.if-not-in_table.ensures
     ∙ c.loop-frame.invariant
 
 pub loop-frame-preserved : goal.loop-frame-preserved
 loop-frame-preserved c =
-    all_next (program_of c.args.table.now) c.args.frames.now c.loop-frame.frame-index c.loop-frame-test.true c.if-not-in-table.ensures
+    all_next (program_of c.args.table.now) c.args.frames.now c.loop-frame.frame-index c.loop-frame-test.true c.if-not-in_table.ensures
     ∙ c.loop-frame.invariant
 
 pub returns : goal.returns

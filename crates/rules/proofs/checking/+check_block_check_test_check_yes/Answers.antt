@@ -10,8 +10,8 @@ use Rattle.rules.proofs.Seen.{seen_narrow}
 use Rattle.rules.proofs.Judging.{spent, span_none, span_more, span_length, yes_span, no_span, rest_span, accepted, accepted_test, accepted_changes, scan_end, block_refused, block_asks, block_goes, test_first, test_second, test_third, front_kept, front_changed, front_back}
 use Rattle.rules.proofs.checking.+check_block_check_test_check_yes.Goals as goal
 
-pub check-block-returns-then-part : goal.check-block-returns-then-part
-check-block-returns-then-part t c =
+pub check_block-returns-then-part : goal.check_block-returns-then-part
+check_block-returns-then-part t c =
     let b = c.args.body in
     let q = c.args.part in
     record {
@@ -22,8 +22,8 @@ check-block-returns-then-part t c =
       types = refl;
     }
 
-pub check-block-returns-in-err-said : goal.check-block-returns-in-err-said
-check-block-returns-in-err-said t c =
+pub check_block-returns-in-err-said : goal.check_block-returns-in-err-said
+check_block-returns-in-err-said t c =
     let b = c.args.body in
     let q = c.args.part in
     let rs = (function_in b).records in
@@ -40,8 +40,8 @@ check-block-returns-in-err-said t c =
       types = refl;
     }
 
-pub check-block-check-test-requires : goal.check-block-check-test-requires
-check-block-check-test-requires t c =
+pub check_block-check_test-requires : goal.check_block-check_test-requires
+check_block-check_test-requires t c =
     let b = c.args.body in
     let q = c.args.part in
     let low : q.place < q.end = search rules in
@@ -51,8 +51,8 @@ check-block-check-test-requires t c =
     in
     search rules
 
-pub check-block-bind-grown-requires : goal.check-block-bind-grown-requires
-check-block-bind-grown-requires t c =
+pub check_block-bind-grown-requires : goal.check_block-bind-grown-requires
+check_block-bind-grown-requires t c =
     let b = c.args.body in
     let q = c.args.part in
     let k =
@@ -61,8 +61,8 @@ check-block-bind-grown-requires t c =
     in
     (k.0, (search rules, search rules))
 
-pub check-block-returns-in-Ask : goal.check-block-returns-in-Ask
-check-block-returns-in-Ask t c =
+pub check_block-returns-in-Ask : goal.check_block-returns-in-Ask
+check_block-returns-in-Ask t c =
     let b = c.args.body in
     let q = c.args.part in
     let rs = (function_in b).records in
@@ -71,15 +71,15 @@ check-block-returns-in-Ask t c =
     record {
       value = λ f h.
           let e = spent _ f h in
-          c.check-test.ensures.value e.0 (omega arith)
+          c.check_test.ensures.value e.0 (omega arith)
           ∙ block_asks (program_in b) (function_in b) b.function f e.0 q.levels (q.end - (q.place + 1)) q.place (take c.args.depth c.args.types.now) q.sort
           (span rs q.place q.end) (record_at (function_in b) q.place) (span rs (q.place + 1) q.end) (meant c.in-ok-said.said) c.in-Ask.test c.in-Ask.yes c.in-Ask.no
           e.1 (span_more rs q.place q.end low room) (span_length rs (q.place + 1) q.end room) (ap meant c.in-Ask.is) c.in-ok-said.ensures;
-      types = c.check-test.ensures.types;
+      types = c.check_test.ensures.types;
     }
 
-pub check-block-returns-in-default : goal.check-block-returns-in-default
-check-block-returns-in-default t c =
+pub check_block-returns-in-default : goal.check_block-returns-in-default
+check_block-returns-in-default t c =
     let b = c.args.body in
     let q = c.args.part in
     let rs = (function_in b).records in
@@ -90,19 +90,19 @@ check-block-returns-in-default t c =
     record {
       value = λ f h.
           let e = spent _ f h in
-          c.check-block.ensures.value e.0 (omega arith)
+          c.check_block.ensures.value e.0 (omega arith)
           ∙ block_goes (program_in b) (function_in b) b.function f e.0 q.levels (q.end - (q.place + 1)) q.place (q.place + 1) (take c.args.depth c.args.types.now)
           (take c.bind-grown.result c.bind-grown.new.types) q.sort
           (span rs q.place q.end) (record_at (function_in b) q.place) (span rs (q.place + 1) q.end) c.in-ok-said.said
           e.1 (span_more rs q.place q.end low room) (span_length rs (q.place + 1) q.end room) (add-one q.place) c.bind-grown.ensures.types c.in-default.not-Ask c.in-ok-said.ensures;
       types =
-          front_kept c.args.depth c.bind-grown.result c.args.types.now c.bind-grown.new.types c.check-block.new.types
+          front_kept c.args.depth c.bind-grown.result c.args.types.now c.bind-grown.new.types c.check_block.new.types
           (bound (program_in b) (function_in b) (take c.args.depth c.args.types.now) (meant c.in-ok-said.said))
-          c.bind-grown.ensures.depth.0 (omega arith) c.bind-grown.ensures.types c.check-block.ensures.types;
+          c.bind-grown.ensures.depth.0 (omega arith) c.bind-grown.ensures.types c.check_block.ensures.types;
     }
 
-pub check-test-returns-in-err-check-yes : goal.check-test-returns-in-err-check-yes
-check-test-returns-in-err-check-yes t c =
+pub check_test-returns-in-err-check_yes : goal.check_test-returns-in-err-check_yes
+check_test-returns-in-err-check_yes t c =
     let b = c.args.body in
     let q = c.args.part in
     let rs = (function_in b).records in
@@ -114,12 +114,12 @@ check-test-returns-in-err-check-yes t c =
           p.1 ∙ ap Err p.2
           ∙ test_first (program_in b) (function_in b) b.function (scan (program_in b) (function_in b) b.function f) q.levels q.place (take c.args.depth c.args.types.now) q.sort
           c.args.test c.args.yes c.args.no (span rs i1 q.end) (span rs i1 (i1 + c.args.yes)) _ i1 (add-one q.place) (yes_span rs i1 q.end c.args.yes c.args.no fit)
-          (c.in-err-check-yes.ensures.value f (omega arith));
-      types = c.check-yes.ensures.types;
+          (c.in-err-check_yes.ensures.value f (omega arith));
+      types = c.check_yes.ensures.types;
     }
 
-pub check-test-returns-in-err-check-block : goal.check-test-returns-in-err-check-block
-check-test-returns-in-err-check-block t c =
+pub check_test-returns-in-err-check_block : goal.check_test-returns-in-err-check_block
+check_test-returns-in-err-check_block t c =
     let b = c.args.body in
     let q = c.args.part in
     let rs = (function_in b).records in
@@ -127,19 +127,19 @@ check-test-returns-in-err-check-block t c =
     let fit : q.place + 1 + c.args.yes + c.args.no ≤ q.end = search rules in
     record {
       value = λ f h.
-          let p = err_from_is_err_and c.from-residual-in-err-check-block.result c.from-residual-in-err-check-block.ensures.1 in
+          let p = err_from_is_err_and c.from-residual-in-err-check_block.result c.from-residual-in-err-check_block.ensures.1 in
           p.1 ∙ ap Err p.2
           ∙ test_second (program_in b) (function_in b) b.function (scan (program_in b) (function_in b) b.function f) q.levels q.place
-          (take c.args.depth c.check-yes.new.types) (take c.args.depth c.args.types.now) q.sort
+          (take c.args.depth c.check_yes.new.types) (take c.args.depth c.args.types.now) q.sort
           c.args.test c.args.yes c.args.no (span rs i1 q.end) (span rs i1 (i1 + c.args.yes)) (span rs (i1 + c.args.yes) (i1 + c.args.yes + c.args.no)) _
           i1 (i1 + c.args.yes) (add-one q.place) (ap (λ n. n + c.args.yes) (add-one q.place))
-          (yes_span rs i1 q.end c.args.yes c.args.no fit) (no_span rs i1 q.end c.args.yes c.args.no fit) c.check-yes.ensures.types
-          (c.in-ok-check-yes.ensures.value f (omega arith)) (c.in-err-check-block.ensures.value f (omega arith));
-      types = c.check-block.ensures.types ∙ c.check-yes.ensures.types;
+          (yes_span rs i1 q.end c.args.yes c.args.no fit) (no_span rs i1 q.end c.args.yes c.args.no fit) c.check_yes.ensures.types
+          (c.in-ok-check_yes.ensures.value f (omega arith)) (c.in-err-check_block.ensures.value f (omega arith));
+      types = c.check_block.ensures.types ∙ c.check_yes.ensures.types;
     }
 
-pub check-test-returns : goal.check-test-returns
-check-test-returns t c =
+pub check_test-returns : goal.check_test-returns
+check_test-returns t c =
     let b = c.args.body in
     let q = c.args.part in
     let rs = (function_in b).records in
@@ -147,25 +147,25 @@ check-test-returns t c =
     let fit : q.place + 1 + c.args.yes + c.args.no ≤ q.end = search rules in
     record {
       value = λ f h.
-          c.check-block-2.ensures.value f (omega arith)
+          c.check_block-2.ensures.value f (omega arith)
           ∙ test_third (program_in b) (function_in b) b.function (scan (program_in b) (function_in b) b.function f) q.levels q.place
-          (take c.args.depth c.check-yes.new.types) (take c.args.depth c.check-block.new.types) (take c.args.depth c.args.types.now) q.sort
+          (take c.args.depth c.check_yes.new.types) (take c.args.depth c.check_block.new.types) (take c.args.depth c.args.types.now) q.sort
           c.args.test c.args.yes c.args.no (span rs i1 q.end) (span rs i1 (i1 + c.args.yes)) (span rs (i1 + c.args.yes) (i1 + c.args.yes + c.args.no))
           (span rs (i1 + c.args.yes + c.args.no) q.end) i1 (i1 + c.args.yes) (i1 + c.args.yes + c.args.no) (add-one q.place) (ap (λ n. n + c.args.yes) (add-one q.place))
           (ap (λ n. n + c.args.yes + c.args.no) (add-one q.place))
           (yes_span rs i1 q.end c.args.yes c.args.no fit) (no_span rs i1 q.end c.args.yes c.args.no fit) (rest_span rs i1 q.end c.args.yes c.args.no fit)
-          c.check-yes.ensures.types c.check-block.ensures.types
-          (c.in-ok-check-yes.ensures.value f (omega arith)) (c.in-ok-check-block.ensures.value f (omega arith));
-      types = c.check-block-2.ensures.types ∙ c.check-block.ensures.types ∙ c.check-yes.ensures.types;
+          c.check_yes.ensures.types c.check_block.ensures.types
+          (c.in-ok-check_yes.ensures.value f (omega arith)) (c.in-ok-check_block.ensures.value f (omega arith));
+      types = c.check_block-2.ensures.types ∙ c.check_block.ensures.types ∙ c.check_yes.ensures.types;
     }
 
-pub check-yes-changes-change-requires : goal.check-yes-changes-change-requires
-check-yes-changes-change-requires t c =
+pub check_yes-changes-change-requires : goal.check_yes-changes-change-requires
+check_yes-changes-change-requires t c =
     let b = c.args.body in
     accepted_changes (program_in b) (function_in b) (seen_narrow b.table) (take c.args.depth c.args.types.now) c.args.test c.requires.1.1.1.0
 
-pub check-yes-returns-in-err-check-block : goal.check-yes-returns-in-err-check-block
-check-yes-returns-in-err-check-block t c =
+pub check_yes-returns-in-err-check_block : goal.check_yes-returns-in-err-check_block
+check_yes-returns-in-err-check_block t c =
     let long : 16 ≤ length c.args.types.now = search rules in
     let deep : c.args.depth ≤ 16 = search rules in
     let low : c.changes-change.result.slot < c.args.depth = omega (arith, c.changes-change.ensures.slot, length-take c.args.depth c.args.types.now) in
@@ -173,18 +173,18 @@ check-yes-returns-in-err-check-block t c =
     record {
       value = λ f h.
           let p = err_from_is_err_and c.from-residual.result c.from-residual.ensures.1 in
-          p.1 ∙ ap Err p.2 ∙ c.in-err-check-block.ensures.value f h ∙ ap (λ (vs : List Ty). scanned f c.args.body vs c.args.part) k;
-      types = front_back c.args.depth c.args.types.now c.check-block.new.types _ c.changes-change.result.slot c.changes-change.result.ty number low c.check-block.ensures.types c.drop-guard.ensures;
+          p.1 ∙ ap Err p.2 ∙ c.in-err-check_block.ensures.value f h ∙ ap (λ (vs : List Ty). scanned f c.args.body vs c.args.part) k;
+      types = front_back c.args.depth c.args.types.now c.check_block.new.types _ c.changes-change.result.slot c.changes-change.result.ty number low c.check_block.ensures.types c.drop-guard.ensures;
     }
 
-pub check-yes-returns : goal.check-yes-returns
-check-yes-returns t c =
+pub check_yes-returns : goal.check_yes-returns
+check_yes-returns t c =
     let long : 16 ≤ length c.args.types.now = search rules in
     let deep : c.args.depth ≤ 16 = search rules in
     let low : c.changes-change.result.slot < c.args.depth = omega (arith, c.changes-change.ensures.slot, length-take c.args.depth c.args.types.now) in
     let k = front_changed c.args.depth c.args.types.now (yes_types (program_in c.args.body) (function_in c.args.body) (take c.args.depth c.args.types.now) c.args.test) c.changes-change.result.slot c.changes-change.result.ty low c.changes-change.ensures.types in
     record {
       value = λ f h.
-          c.in-ok-check-block.ensures.value f h ∙ ap (λ (vs : List Ty). scanned f c.args.body vs c.args.part) k;
-      types = front_back c.args.depth c.args.types.now c.check-block.new.types _ c.changes-change.result.slot c.changes-change.result.ty number low c.check-block.ensures.types c.drop-guard-2.ensures;
+          c.in-ok-check_block.ensures.value f h ∙ ap (λ (vs : List Ty). scanned f c.args.body vs c.args.part) k;
+      types = front_back c.args.depth c.args.types.now c.check_block.new.types _ c.changes-change.result.slot c.changes-change.result.ty number low c.check_block.ensures.types c.drop-guard-2.ensures;
     }

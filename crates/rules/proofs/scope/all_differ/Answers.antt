@@ -8,18 +8,18 @@ use Rattle.rules.proofs.scope.all_differ.Goals as goal
 rest : (xs : List ℕ) (n : ℕ) → take (length xs - n) (drop n xs) ≡ drop n xs
 rest xs n = take_all (length xs - n) (drop n xs) (simp length-drop (omega arith))
 
-pub returns-then-not-is-other : goal.returns-then-not-is-other
-returns-then-not-is-other c =
+pub returns-then-not-is_other : goal.returns-then-not-is_other
+returns-then-not-is_other c =
     let xs = c.args.slots.now in
     let i = c.loop-i.i in
-    let e : lacks (get_or xs i 0) (drop (i + 1) xs) ≡ false = sym (c.is-other.ensures ∙ ap (lacks (get_or xs i 0)) (rest xs (i + 1))) ∙ c.if-not-is-other.true in
+    let e : lacks (get_or xs i 0) (drop (i + 1) xs) ≡ false = sym (c.is_other.ensures ∙ ap (lacks (get_or xs i 0)) (rest xs (i + 1))) ∙ c.if-not-is_other.true in
     test_fails distinct xs i 0 (lacks (get_or xs i 0) (drop (i + 1) xs)) c.loop-i-test.true refl c.loop-i.invariant e
 
 pub loop-i-preserved : goal.loop-i-preserved
 loop-i-preserved c =
     let xs = c.args.slots.now in
     let i = c.loop-i.i in
-    let e : lacks (get_or xs i 0) (drop (i + 1) xs) ≡ true = sym (c.is-other.ensures ∙ ap (lacks (get_or xs i 0)) (rest xs (i + 1))) ∙ c.if-not-is-other.false in
+    let e : lacks (get_or xs i 0) (drop (i + 1) xs) ≡ true = sym (c.is_other.ensures ∙ ap (lacks (get_or xs i 0)) (rest xs (i + 1))) ∙ c.if-not-is_other.false in
     test_goes distinct xs i 0 (lacks (get_or xs i 0) (drop (i + 1) xs)) c.loop-i-test.true refl c.loop-i.invariant e
 
 pub returns : goal.returns

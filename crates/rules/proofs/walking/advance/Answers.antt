@@ -16,8 +16,8 @@ returns-in-default c =
           (none_meant c.allowed.result c.in-default.not-Some ∙ c.allowed.ensures);
     }
 
-pub pass-test-place-requires : goal.pass-test-place-requires
-pass-test-place-requires c =
+pub pass_test-place-requires : goal.pass_test-place-requires
+pass_test-place-requires c =
     let b = c.args.body in
     let ts = take c.args.from.depth c.args.types.now in
     let a = allowed_some (program_in b) (function_in b) ts (record_at (function_in b) c.args.from.place) (meant c.in-Some.said) c.in-Some.ensures in
@@ -41,8 +41,8 @@ returns-in-Ask c =
     let deep : c.args.from.depth ≤ 16 = search rules in
     let a = allowed_some (program_in b) (function_in b) ts (record_at (function_in b) c.args.from.place) (meant c.in-Some.said) c.in-Some.ensures in
     record {
-      nearer = (c.pass-test-place.ensures.nearer.0, c.pass-test-place.ensures.nearer.1, deep);
-      leads = λ way ok there. c.pass-test-place.ensures.leads way (omega arith, a.0 ∙ ap Some (ap meant c.in-Ask.is)) ok there;
+      nearer = (c.pass_test-place.ensures.nearer.0, c.pass_test-place.ensures.nearer.1, deep);
+      leads = λ way ok there. c.pass_test-place.ensures.leads way (omega arith, a.0 ∙ ap Some (ap meant c.in-Ask.is)) ok there;
     }
 
 pub returns-in-default-said : goal.returns-in-default-said

@@ -13,6 +13,6 @@ returns-in-Some g c =
     let m = g.M.Memory.model c.args.memory.now in
     let t = task_of c.args.thread.now in
     let running : is_running t.status ≡ true = search rules in
-    c.touch-from.ensures
+    c.touch_from.ensures
     ∙ touch_newest p m t.frames c.in-Some.frame c.in-Some.ensures
     ∙ sym (cond-true (is_running t.status) (touch_by p m t.frames (standing p t.frames)) None running)

@@ -12,15 +12,15 @@ returns-in-default g c =
     let p = program_of c.args.table.now in
     let m = g.M.Memory.model c.args.memory.now in
     let fs = frames_of c.args.thread.now in
-    record { value = takes_nothing p fs m c.args.threads c.args.room (stands-nowhere p fs (sym c.in-default.is ∙ c.frame-below.ensures)); kept = λ n e. refl; fits = tt }
+    record { value = takes_nothing p fs m c.args.threads c.args.room (stands-nowhere p fs (sym c.in-default.is ∙ c.frame_below.ensures)); kept = λ n e. refl; fits = tt }
 
-pub returns-in-default-op-at : goal.returns-in-default-op-at
-returns-in-default-op-at g c =
+pub returns-in-default-op_at : goal.returns-in-default-op_at
+returns-in-default-op_at g c =
     let p = program_of c.args.table.now in
     let m = g.M.Memory.model c.args.memory.now in
     let fs = frames_of c.args.thread.now in
     let s = stands_at p fs c.in-Some.frame c.in-Some.ensures in
-    record { value = takes_nothing p fs m c.args.threads c.args.room (c.in-default-op-at.ensures.value ∙ s.1); kept = λ n e. refl; fits = tt }
+    record { value = takes_nothing p fs m c.args.threads c.args.room (c.in-default-op_at.ensures.value ∙ s.1); kept = λ n e. refl; fits = tt }
 
 pub returns : goal.returns
 returns g c =
@@ -28,13 +28,13 @@ returns g c =
     let m = g.M.Memory.model c.args.memory.now in
     let fs = frames_of c.args.thread.now in
     let F = c.in-Some.frame in
-    let w = c.frame-below-2.result in
+    let w = c.frame_below-2.result in
     let d = c.len.result in
-    let op = meant c.in-Some-op-at.said in
+    let op = meant c.in-Some-op_at.said in
     let s = stands_at p fs F c.in-Some.ensures in
     record {
-      value = takes p fs m c.args.threads c.args.room (g.M.Memory.model c.act.new.memory) F w d op c.act.result s.0 c.frame-below-2.ensures c.len.ensures.value
-          (c.in-Some-op-at.ensures.value ∙ s.1) c.act.ensures.value c.act.ensures.after;
+      value = takes p fs m c.args.threads c.args.room (g.M.Memory.model c.act.new.memory) F w d op c.act.result s.0 c.frame_below-2.ensures c.len.ensures.value
+          (c.in-Some-op_at.ensures.value ∙ s.1) c.act.ensures.value c.act.ensures.after;
       kept = λ n e. c.act.ensures.after ∙ acted_kept p m F w d c.args.threads c.args.room op n (sym c.act.ensures.value ∙ e);
       fits = subst (λ (k : ℕ). FitsIn k c.args.threads c.args.room c.act.result) c.len.ensures.value (subst (λ (r : Result Outcome ℕ). FitsIn d c.args.threads c.args.room r) (sym c.act.ensures.value) (acted_fits p m F w d c.args.threads c.args.room op));
     }

@@ -5,15 +5,15 @@ use Rattle.table.specs.Reading.{bytes_of}
 use Rattle.table.proofs.Sets.{set_all, set_refuses, set_passes}
 use Rattle.table.proofs.keeping.set_fits.Goals as goal
 
-pub returns-then-not-first-fits : goal.returns-then-not-first-fits
-returns-then-not-first-fits c =
-    set_refuses c.args.kind (field_total (bytes_of c.args.table.now) c.args.s) (field_at (bytes_of c.args.table.now) c.args.s) c.loop-f.f c.loop-f.rest c.field-at.result (set_fits c.args.kind (struct_at (bytes_of c.args.table.now) c.args.s) c.args.set) c.first-fits.result
-    (omega arith) c.field-at.ensures c.loop-f.invariant c.first-fits.ensures c.if-not-first-fits.true
+pub returns-then-not-first_fits : goal.returns-then-not-first_fits
+returns-then-not-first_fits c =
+    set_refuses c.args.kind (field_total (bytes_of c.args.table.now) c.args.s) (field_at (bytes_of c.args.table.now) c.args.s) c.loop-f.f c.loop-f.rest c.field_at.result (set_fits c.args.kind (struct_at (bytes_of c.args.table.now) c.args.s) c.args.set) c.first_fits.result
+    (omega arith) c.field_at.ensures c.loop-f.invariant c.first_fits.ensures c.if-not-first_fits.true
 
 pub loop-f-preserved : goal.loop-f-preserved
 loop-f-preserved c =
-    set_passes c.args.kind (field_total (bytes_of c.args.table.now) c.args.s) (field_at (bytes_of c.args.table.now) c.args.s) c.loop-f.f c.loop-f.rest c.field-at.result (set_fits c.args.kind (struct_at (bytes_of c.args.table.now) c.args.s) c.args.set) c.first-fits.result
-    (omega arith) c.field-at.ensures c.loop-f.invariant c.first-fits.ensures c.if-not-first-fits.false
+    set_passes c.args.kind (field_total (bytes_of c.args.table.now) c.args.s) (field_at (bytes_of c.args.table.now) c.args.s) c.loop-f.f c.loop-f.rest c.field_at.result (set_fits c.args.kind (struct_at (bytes_of c.args.table.now) c.args.s) c.args.set) c.first_fits.result
+    (omega arith) c.field_at.ensures c.loop-f.invariant c.first_fits.ensures c.if-not-first_fits.false
 
 pub returns : goal.returns
 returns c =

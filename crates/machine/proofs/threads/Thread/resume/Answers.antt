@@ -12,11 +12,11 @@ running fs = record { status = Running; frames = fs }
 pub returns-then-len-ge2 : goal.returns-then-len-ge2
 returns-then-len-ge2 c =
     let fs = c.args.self.now.frames in
-    ap (λ (j : ℕ). running (take j (set fs (c.len-len.result - 2) c.args.frame))) c.saturating-sub-self.ensures
+    ap (λ (j : ℕ). running (take j (set fs (c.len-len.result - 2) c.args.frame))) c.saturating_sub-self.ensures
     ∙ ap running (waiting_written fs c.args.self.now.depth c.len-len.result c.len-len.ensures.value c.args.frame)
 
 pub returns-else-len-ge2 : goal.returns-else-len-ge2
 returns-else-len-ge2 c =
     let fs = c.args.self.now.frames in
-    ap (λ (j : ℕ). running (take j fs)) c.saturating-sub-self.ensures
+    ap (λ (j : ℕ). running (take j fs)) c.saturating_sub-self.ensures
     ∙ ap running (waiting_none fs c.args.self.now.depth c.len-len.result c.len-len.ensures.value c.args.frame c.if-len-ge2.false)

@@ -5,4 +5,4 @@ use Rattle.table.proofs.Listing.{length_listing}
 use Rattle.table.proofs.view.Table.functions.Goals as goal
 
 pub returns : goal.returns
-returns c = record { value = c.function-total.ensures.value ∙ sym (length_listing (function_total (bytes_of c.args.self.now)) (function_at (bytes_of c.args.self.now))); bound = omega arith }
+returns c = record { value = c.function_total.ensures.value ∙ sym (length_listing (function_total (bytes_of c.args.self.now)) (function_at (bytes_of c.args.self.now))); bound = omega arith }

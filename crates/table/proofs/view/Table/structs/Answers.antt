@@ -5,4 +5,4 @@ use Rattle.table.proofs.Listing.{length_listing}
 use Rattle.table.proofs.view.Table.structs.Goals as goal
 
 pub returns : goal.returns
-returns c = record { value = c.struct-total.ensures.value ∙ sym (length_listing (struct_total (bytes_of c.args.self.now)) (struct_at (bytes_of c.args.self.now))); bound = omega arith }
+returns c = record { value = c.struct_total.ensures.value ∙ sym (length_listing (struct_total (bytes_of c.args.self.now)) (struct_at (bytes_of c.args.self.now))); bound = omega arith }
