@@ -7,12 +7,16 @@ import glob
 import re
 import sys
 
+# Words of Rattle's own.
+MADE = ["in_ok", "in_err", "in_default", "from_residual", "overflow_add", "overflow_sub", "overflow_mul"]
+
 crates = sys.argv[1:] or [p.split("/")[1] for p in glob.glob("crates/*/")]
 for crate in crates:
     words = set()
     for path in glob.glob("crates/%s/src/**/*.rt" % crate, recursive=True):
         text = re.sub(r"//.*|ghost use.*", "", open(path, encoding="utf-8").read())
         words |= set(re.findall(r"\b[a-z][a-z0-9]*(?:_[a-z0-9]+)+\b", text))
+    words |= set(MADE)
     words = sorted((w for w in words), key=len, reverse=True)
     old = {w.replace("_", "-"): w for w in words}
     if not old:

@@ -21,8 +21,8 @@ loop-taken-init g c =
 all_fit : (limit taken more most : ℕ) → Fits w64 limit → taken < limit → more ≡ most → most ≤ limit - taken → Fits w64 (taken + more)
 all_fit limit taken more most f l e m = search rules
 
-pub overflow-add-taken : goal.overflow-add-taken
-overflow-add-taken g c =
+pub overflow_add-taken : goal.overflow_add-taken
+overflow_add-taken g c =
     let p = program_of c.args.table.now in
     let R = found c.loop-taken.machine (g.M.Memory.model c.loop-taken.memory) c.loop-taken.out in
     let limit = c.args.limit - c.loop-taken.taken in

@@ -7,9 +7,9 @@ use Rattle.rules.proofs.Judging.{none_left}
 use Rattle.scoping.proofs.Stacks.{end_none, end_later, top_deep, end_on, end_over, over_deep}
 use Rattle.scoping.proofs.+end_blocks.Goals as goal
 
-pub returns-in-default : goal.returns-in-default
-returns-in-default t c = record {
-  state = end_none c.args.place c.args.depth c.args.types.now (held c.args.blocks.now) (sym (none_left c.last.result c.in-default.not-Some) ∙ c.last.ensures);
+pub returns-in_default : goal.returns-in_default
+returns-in_default t c = record {
+  state = end_none c.args.place c.args.depth c.args.types.now (held c.args.blocks.now) (sym (none_left c.last.result c.in_default.not-Some) ∙ c.last.ensures);
   deep = (omega arith, c.requires.1.1.1);
   room = refl;
 }

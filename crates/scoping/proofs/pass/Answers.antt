@@ -27,8 +27,8 @@ judge-requires c =
     in
     (starts b i d ts os q w, floored b i d ts os q w)
 
-pub returns-in-err-said : goal.returns-in-err-said
-returns-in-err-said c =
+pub returns-in_err-said : goal.returns-in_err-said
+returns-in_err-said c =
     let b = c.args.body in
     let i = c.args.place in
     let d = c.args.depth in
@@ -38,9 +38,9 @@ returns-in-err-said c =
     let w = first_of c.args.body c.args.place c.args.depth c.args.types.now c.args.blocks.now c.innermost-part.result c.innermost-part.ensures
     c.requires.0.0 c.requires.0.1.0 c.requires.0.1.1.1 c.requires.1.0 c.requires.1.1
     in
-    let p = err_from_is_err_and c.from-residual.result c.from-residual.ensures.1 in
+    let p = err_from_is_err_and c.from_residual.result c.from_residual.ensures.1 in
     record {
-      value = subst⁻¹ (Passed b i (state_of ts os) c.args.types.now os) (p.1 ∙ ap Err p.2) (passed_not b i d ts os q w _ c.in-err-said.ensures);
+      value = subst⁻¹ (Passed b i (state_of ts os) c.args.types.now os) (p.1 ∙ ap Err p.2) (passed_not b i d ts os q w _ c.in_err-said.ensures);
       room = refl;
     }
 
@@ -55,7 +55,7 @@ open_yes-requires c =
     let w = first_of c.args.body c.args.place c.args.depth c.args.types.now c.args.blocks.now c.innermost-part.result c.innermost-part.ensures
     c.requires.0.0 c.requires.0.1.0 c.requires.0.1.1.1 c.requires.1.0 c.requires.1.1
     in
-    let a = asked_here b i d ts os q w (meant c.in-ok-said.said) c.in-Ask.test c.in-Ask.yes c.in-Ask.no (ap meant c.in-Ask.is) c.in-ok-said.ensures in
+    let a = asked_here b i d ts os q w (meant c.in_ok-said.said) c.in-Ask.test c.in-Ask.yes c.in-Ask.no (ap meant c.in-Ask.is) c.in_ok-said.ensures in
     let n : length (stack c.args.blocks.now) ≡ length (held c.args.blocks.now) = length-reverse (held c.args.blocks.now) in
     (c.requires.0.0, (c.requires.0.1.0, (omega (arith, a.1, c.requires.0.1.1.1), a.2)))
 
@@ -64,8 +64,8 @@ bind-grown-requires c =
     let b = c.args.body in
     let q = c.innermost-part.result in
     let k =
-    accepted (program_in b) (function_in b) b.function q.levels (q.end - (q.place + 1)) q.sort (take c.args.depth c.args.types.now) q.place (record_at (function_in b) q.place) (meant c.in-ok-said.said)
-    c.in-ok-said.ensures
+    accepted (program_in b) (function_in b) b.function q.levels (q.end - (q.place + 1)) q.sort (take c.args.depth c.args.types.now) q.place (record_at (function_in b) q.place) (meant c.in_ok-said.said)
+    c.in_ok-said.ensures
     in
     (k.0, (c.requires.0.0, c.requires.0.1.0))
 
@@ -89,13 +89,13 @@ returns-in-Ask c =
     in
     record {
       value =
-          behind_test b i d ts os q w (meant c.in-ok-said.said) c.in-Ask.test c.in-Ask.yes c.in-Ask.no (i + 1 + c.in-Ask.yes) c.open_yes.new.types _
-          (ap meant c.in-Ask.is) c.in-ok-said.ensures (ap (λ n. n + c.in-Ask.yes) (add-one i)) c.requires.0.0 c.open_yes.ensures.state (c.open_yes.ensures.deep c.requires.1.0);
+          behind_test b i d ts os q w (meant c.in_ok-said.said) c.in-Ask.test c.in-Ask.yes c.in-Ask.no (i + 1 + c.in-Ask.yes) c.open_yes.new.types _
+          (ap meant c.in-Ask.is) c.in_ok-said.ensures (ap (λ n. n + c.in-Ask.yes) (add-one i)) c.requires.0.0 c.open_yes.ensures.state (c.open_yes.ensures.deep c.requires.1.0);
       room = c.open_yes.ensures.room;
     }
 
-pub returns-in-default : goal.returns-in-default
-returns-in-default c =
+pub returns-in_default : goal.returns-in_default
+returns-in_default c =
     let b = c.args.body in
     let i = c.args.place in
     let d = c.args.depth in
@@ -107,8 +107,8 @@ returns-in-default c =
     in
     record {
       value =
-          behind_plain b i d ts os q w c.in-ok-said.said (i + 1) c.end_blocks.result (take c.bind-grown.result c.bind-grown.new.types) c.end_blocks.new.types _
-          c.in-default.not-Ask c.in-ok-said.ensures (add-one i) (omega (arith, c.bind-grown.ensures.depth.1, c.end_blocks.ensures.deep.0)) c.bind-grown.ensures.types
+          behind_plain b i d ts os q w c.in_ok-said.said (i + 1) c.end_blocks.result (take c.bind-grown.result c.bind-grown.new.types) c.end_blocks.new.types _
+          c.in_default.not-Ask c.in_ok-said.ensures (add-one i) (omega (arith, c.bind-grown.ensures.depth.1, c.end_blocks.ensures.deep.0)) c.bind-grown.ensures.types
           c.end_blocks.ensures.state c.end_blocks.ensures.deep.1;
       room = c.end_blocks.ensures.room;
     }

@@ -33,18 +33,18 @@ pass-requires c =
     let w = c.loop-place.invariant.0 in
     ((w.few, (omega arith, (omega (arith, c.records.ensures.few), c.loop-place.invariant.1))), (w.deep, reached_low b j there c.loop-place.place c.loop-place.depth c.loop-place.scratch _ w))
 
-pub returns-in-err-depth : goal.returns-in-err-depth
-returns-in-err-depth c =
+pub returns-in_err-depth : goal.returns-in_err-depth
+returns-in_err-depth c =
     let b : Body = record { table = c.args.table.now; function = c.args.function } in
     let j = c.args.index in
     let there : c.args.index < length (callee (seen c.args.table.now) c.args.function).records = omega (arith, c.records.ensures.value) in
     let n = length c.args.scratch.now in
-    let p = err_from_is_err_and c.from-residual.result c.from-residual.ensures.1 in
-    let e : c.from-residual.result ≡ Err c.in-err-depth.field-0.0 = p.1 ∙ ap Err p.2 in
+    let p = err_from_is_err_and c.from_residual.result c.from_residual.ensures.1 in
+    let e : c.from_residual.result ≡ Err c.in_err-depth.field-0.0 = p.1 ∙ ap Err p.2 in
     record {
       value =
           e ∙ scoped_refused n c.args.function j (seen c.args.table.now) _ c.if-scratch-lt128.false there
-          (reached_refused b j there c.loop-place.place c.loop-place.depth c.loop-place.scratch _ c.loop-place.invariant.0 c.loop-place-test.true _ c.in-err-depth.ensures.value)
+          (reached_refused b j there c.loop-place.place c.loop-place.depth c.loop-place.scratch _ c.loop-place.invariant.0 c.loop-place-test.true _ c.in_err-depth.ensures.value)
           ∙ ap (λ q. scoped n q c.args.function j) (seen_is c.args.table.now);
       types = subst⁻¹ (Fronts _ c.pass.new.types) e tt;
     }
@@ -54,7 +54,7 @@ loop-place-preserved c =
     let b : Body = record { table = c.args.table.now; function = c.args.function } in
     let j = c.args.index in
     let there : c.args.index < length (callee (seen c.args.table.now) c.args.function).records = omega (arith, c.records.ensures.value) in (
-      reached_next b j there c.loop-place.place c.loop-place.depth c.loop-place.scratch _ c.loop-place.invariant.0 c.loop-place-test.true c.in-ok-depth.depth c.pass.new.types _ c.in-ok-depth.ensures.value,
+      reached_next b j there c.loop-place.place c.loop-place.depth c.loop-place.scratch _ c.loop-place.invariant.0 c.loop-place-test.true c.in_ok-depth.depth c.pass.new.types _ c.in_ok-depth.ensures.value,
       c.pass.ensures.room ∙ c.loop-place.invariant.1,
     )
 

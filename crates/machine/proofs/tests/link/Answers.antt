@@ -9,8 +9,8 @@ use Rattle.machine.proofs.Settling.{word_of_slot, left_of_slot, word_read}
 use Rattle.machine.proofs.Pairing.{pair_fails, pair_goes, pair_halts, pair_there, exchange_fails, exchange_halts, exchange_settles, exchange_51, first_word_fails, second_word_fails, paired_as, none_null}
 use Rattle.machine.proofs.tests.link.Goals as goal
 
-pub returns-in-err-pair : goal.returns-in-err-pair
-returns-in-err-pair g c =
+pub returns-in_err-pair : goal.returns-in_err-pair
+returns-in_err-pair g c =
     let F = c.args.frame in
     let vs = F.slots in
     let x = c.args.x in
@@ -23,14 +23,14 @@ returns-in-err-pair g c =
     let kinds = is_reference (at vs x) && is_reference (at vs y) && refers p m (at vs x) f && refers p m (at vs y) h in
     let a : (given vs x && given vs y) ≡ true = search rules in
     let b : (is_reference (at vs x) && is_reference (at vs y) && refers p m (at vs x) f && refers p m (at vs y) h) ≡ true = search rules in
-    let n = c.in-err-pair.field-0.0 in
-    let s = paired_as p m c.at-a.result (at vs x) f c.at-b.result (at vs y) h (Err n) c.in-err-pair.ensures.value c.at-a.ensures c.at-b.ensures in
+    let n = c.in_err-pair.field-0.0 in
+    let s = paired_as p m c.at-a.result (at vs x) f c.at-b.result (at vs y) h (Err n) c.in_err-pair.ensures.value c.at-a.ensures c.at-b.ensures in
     let done = exchange_fails p m F (fields_ask p m vs x f y h) (is_null (at vs x) || is_null (at vs y)) x f (cell p m (at vs y) h).word (word_of (at vs y)) n false (spent_into p m vs x f y) (pair_fails p m there kinds (at vs x) f (at vs y) h n a b s) in
-    let d = err_from_is_err_and c.from-residual-in-err-pair.result c.from-residual-in-err-pair.ensures.1 in
+    let d = err_from_is_err_and c.from_residual-in_err-pair.result c.from_residual-in_err-pair.ensures.1 in
     record { value = d.1 ∙ ap Err d.2 ∙ done.0; after = done.1 }
 
-pub returns-in-default : goal.returns-in-default
-returns-in-default g c =
+pub returns-in_default : goal.returns-in_default
+returns-in_default g c =
     let F = c.args.frame in
     let vs = F.slots in
     let x = c.args.x in
@@ -45,14 +45,14 @@ returns-in-default g c =
     let b : (is_reference (at vs x) && is_reference (at vs y) && refers p m (at vs x) f && refers p m (at vs y) h) ≡ true = search rules in
     let rx : is_reference (at vs x) ≡ true = grind (arith, nat_tests) in
     let ry : is_reference (at vs y) ≡ true = grind (arith, nat_tests) in
-    let s = paired_as p m c.at-a.result (at vs x) f c.at-b.result (at vs y) h (Ok None) (ap Ok (sym c.in-default.is) ∙ c.in-ok-pair.ensures.value) c.at-a.ensures c.at-b.ensures in
+    let s = paired_as p m c.at-a.result (at vs x) f c.at-b.result (at vs y) h (Ok None) (ap Ok (sym c.in_default.is) ∙ c.in_ok-pair.ensures.value) c.at-a.ensures c.at-b.ensures in
     let q = pair_goes p m there kinds (at vs x) f (at vs y) h None a b s in
     let off = pair_halts p m (at vs x) f (at vs y) h q.first_target q.second_target q.first_is q.second_is q.both_are rx ry in
     let done = exchange_halts p m F (fields_ask p m vs x f y h) (is_null (at vs x) || is_null (at vs y)) x f (cell p m (at vs y) h).word (word_of (at vs y)) false (spent_into p m vs x f y) q.holds off in
     record { value = done.0; after = done.1 }
 
-pub returns-in-err-new : goal.returns-in-err-new
-returns-in-err-new g c =
+pub returns-in_err-new : goal.returns-in_err-new
+returns-in_err-new g c =
     let F = c.args.frame in
     let vs = F.slots in
     let x = c.args.x in
@@ -65,15 +65,15 @@ returns-in-err-new g c =
     let kinds = is_reference (at vs x) && is_reference (at vs y) && refers p m (at vs x) f && refers p m (at vs y) h in
     let a : (given vs x && given vs y) ≡ true = search rules in
     let b : (is_reference (at vs x) && is_reference (at vs y) && refers p m (at vs x) f && refers p m (at vs y) h) ≡ true = search rules in
-    let n = c.in-err-new.field-0.0 in
+    let n = c.in_err-new.field-0.0 in
     let t = c.in-Some.pair in
-    let s = paired_as p m c.at-a.result (at vs x) f c.at-b.result (at vs y) h (Ok (Some t)) (ap Ok (sym c.in-Some.is) ∙ c.in-ok-pair.ensures.value) c.at-a.ensures c.at-b.ensures in
+    let s = paired_as p m c.at-a.result (at vs x) f c.at-b.result (at vs y) h (Ok (Some t)) (ap Ok (sym c.in-Some.is) ∙ c.in_ok-pair.ensures.value) c.at-a.ensures c.at-b.ensures in
     let q = pair_goes p m there kinds (at vs x) f (at vs y) h (Some t) a b s in
     let two = pair_there p m (at vs x) f (at vs y) h q.first_target q.second_target t q.first_is q.second_is q.both_are in
     let on = none_null (at vs x) (at vs y) t.from.object t.to.object two.0.named two.1.named in
-    let k = second_word_fails n (cell p m (at vs y) h).word (word_of (at vs y)) c.at-b.result (at vs y) c.in-err-new.ensures c.at-b.ensures refl in
+    let k = second_word_fails n (cell p m (at vs y) h).word (word_of (at vs y)) c.at-b.result (at vs y) c.in_err-new.ensures c.at-b.ensures refl in
     let done = exchange_51 p m F (fields_ask p m vs x f y h) (is_null (at vs x) || is_null (at vs y)) x f (cell p m (at vs y) h).word (word_of (at vs y)) n false (spent_into p m vs x f y) q.holds on k.0 k.1 in
-    let d = err_from_is_err_and c.from-residual-in-err-new.result c.from-residual-in-err-new.ensures.1 in
+    let d = err_from_is_err_and c.from_residual-in_err-new.result c.from_residual-in_err-new.ensures.1 in
     record { value = d.1 ∙ ap Err d.2 ∙ done.0; after = done.1 }
 
 pub returns : goal.returns
@@ -91,12 +91,12 @@ returns g c =
     let a : (given vs x && given vs y) ≡ true = search rules in
     let b : (is_reference (at vs x) && is_reference (at vs y) && refers p m (at vs x) f && refers p m (at vs y) h) ≡ true = search rules in
     let t = c.in-Some.pair in
-    let s = paired_as p m c.at-a.result (at vs x) f c.at-b.result (at vs y) h (Ok (Some t)) (ap Ok (sym c.in-Some.is) ∙ c.in-ok-pair.ensures.value) c.at-a.ensures c.at-b.ensures in
+    let s = paired_as p m c.at-a.result (at vs x) f c.at-b.result (at vs y) h (Ok (Some t)) (ap Ok (sym c.in-Some.is) ∙ c.in_ok-pair.ensures.value) c.at-a.ensures c.at-b.ensures in
     let q = pair_goes p m there kinds (at vs x) f (at vs y) h (Some t) a b s in
     let two = pair_there p m (at vs x) f (at vs y) h q.first_target q.second_target t q.first_is q.second_is q.both_are in
     let on = none_null (at vs x) (at vs y) t.from.object t.to.object two.0.named two.1.named in
-    let word = word_of_slot c.in-ok-new.new c.at-b.result (at vs y) c.in-ok-new.ensures c.at-b.ensures in
+    let word = word_of_slot c.in_ok-new.new c.at-b.result (at vs y) c.in_ok-new.ensures c.at-b.ensures in
     let seen = word_read p m (at vs y) h t.to two.1 in
-    let done = exchange_settles p m (g.M.Memory.model c.settle.new.memory) F c.with-spent.result (fields_ask p m vs x f y h) (is_null (at vs x) || is_null (at vs y)) x f t.to.cell.word (cell p m (at vs y) h).word c.in-ok-new.new (word_of (at vs y)) false (spent_into p m vs x f y) t.from.object c.settle.result
+    let done = exchange_settles p m (g.M.Memory.model c.settle.new.memory) F c.with-spent.result (fields_ask p m vs x f y h) (is_null (at vs x) || is_null (at vs y)) x f t.to.cell.word (cell p m (at vs y) h).word c.in_ok-new.new (word_of (at vs y)) false (spent_into p m vs x f y) t.from.object c.settle.result
     q.holds on two.0.named (left_of_slot p m F c.with-spent.result x f y c.at-b.result c.left.result t.from two.0 c.left.ensures c.at-b.ensures c.with-spent.ensures) seen word c.settle.ensures.value c.settle.ensures.after in
     record { value = done.0; after = done.1 }

@@ -8,23 +8,23 @@ use Rattle.machine.specs.World.{task_of}
 use Rattle.owning.proofs.Sums.{known_at, known_by}
 use Rattle.owning.proofs.known.require_frames.Goals as goal
 
-pub returns-in-err-demand : goal.returns-in-err-demand
-returns-in-err-demand c =
+pub returns-in_err-demand : goal.returns-in_err-demand
+returns-in_err-demand c =
     let p = program_of c.args.table.now in
     let ts = c.args.threads.now in
     let i = c.loop-i.i in
     let size : length (map task_of ts) ≡ length ts = length-map ts task_of in
     let there : i < length (map task_of ts) = omega arith in
-    let asked = c.in-err-demand.ensures ∙ ap (λ b. demanded b 69 (Thread i)) c.all_in_table.ensures ∙ known_by p ts i c.in_use.result.now c.loop-i-test.true c.in_use.ensures.value in
-    λ m. each_refused (length (map task_of ts)) (known_at p ts) i c.in-err-demand.field-0.0 c.from-residual.result there c.loop-i.invariant asked c.from-residual.ensures.1
+    let asked = c.in_err-demand.ensures ∙ ap (λ b. demanded b 69 (Thread i)) c.all_in_table.ensures ∙ known_by p ts i c.in_use.result.now c.loop-i-test.true c.in_use.ensures.value in
+    λ m. each_refused (length (map task_of ts)) (known_at p ts) i c.in_err-demand.field-0.0 c.from_residual.result there c.loop-i.invariant asked c.from_residual.ensures.1
 
 pub loop-i-preserved : goal.loop-i-preserved
 loop-i-preserved c =
     let p = program_of c.args.table.now in
     let ts = c.args.threads.now in
     let i = c.loop-i.i in
-    each_next (known_at p ts) i c.in-ok-demand.field-0 c.loop-i.invariant
-    (c.in-ok-demand.ensures ∙ ap (λ b. demanded b 69 (Thread i)) c.all_in_table.ensures ∙ known_by p ts i c.in_use.result.now c.loop-i-test.true c.in_use.ensures.value)
+    each_next (known_at p ts) i c.in_ok-demand.field-0 c.loop-i.invariant
+    (c.in_ok-demand.ensures ∙ ap (λ b. demanded b 69 (Thread i)) c.all_in_table.ensures ∙ known_by p ts i c.in_use.result.now c.loop-i-test.true c.in_use.ensures.value)
 
 pub returns : goal.returns
 returns c =

@@ -15,7 +15,7 @@ loop-number-preserved g c = λ plain.
     let i = c.loop-number.number-index in
     let before = c.loop-number.invariant plain in
     let here : WritesOnOk g.W.Write.write_str_gives c.loop-number.f c.write.result (decimal (get_or c.args.numbers.now c.loop-number.number-index 0) ++ codes "\n") c.write.new.self = search rules in
-    let now = here before.plain (ap is_ok c.in-ok-write.was) in
+    let now = here before.plain (ap is_ok c.in_ok-write.was) in
     has_written_of_eq g.W.Write.write_str_gives c.args.f.now _ _ c.write.new.self (lines_more ns i c.loop-number-test.true)
     (has_written_append g.W.Write.write_str_gives c.args.f.now (lines (take i ns)) c.loop-number.f (decimal (get_or ns i 0) ++ codes "\n") c.write.new.self before now)
 

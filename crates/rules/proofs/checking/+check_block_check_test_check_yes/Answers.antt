@@ -22,8 +22,8 @@ check_block-returns-then-part t c =
       types = refl;
     }
 
-pub check_block-returns-in-err-said : goal.check_block-returns-in-err-said
-check_block-returns-in-err-said t c =
+pub check_block-returns-in_err-said : goal.check_block-returns-in_err-said
+check_block-returns-in_err-said t c =
     let b = c.args.body in
     let q = c.args.part in
     let rs = (function_in b).records in
@@ -32,11 +32,11 @@ check_block-returns-in-err-said t c =
     record {
       value = λ f h.
           let e = spent _ f h in
-          let p = err_from_is_err_and c.from-residual.result c.from-residual.ensures.1 in
+          let p = err_from_is_err_and c.from_residual.result c.from_residual.ensures.1 in
           p.1 ∙ ap Err p.2
           ∙ block_refused (program_in b) (function_in b) b.function f e.0 q.levels (q.end - (q.place + 1)) q.place (take c.args.depth c.args.types.now) q.sort
           (span rs q.place q.end) (record_at (function_in b) q.place) (span rs (q.place + 1) q.end) _ e.1 (span_more rs q.place q.end low room) (span_length rs (q.place + 1) q.end room)
-          c.in-err-said.ensures;
+          c.in_err-said.ensures;
       types = refl;
     }
 
@@ -47,7 +47,7 @@ check_block-check_test-requires t c =
     let low : q.place < q.end = search rules in
     let k : (q.place + 1 + c.in-Ask.yes + c.in-Ask.no ≤ q.end) × (1 ≤ q.levels) × (first (asks (program_in b) (function_in b) (take c.args.depth c.args.types.now) c.in-Ask.test) ≡ None) =
     accepted_test (program_in b) (function_in b) b.function q.levels q.place q.end q.sort (take c.args.depth c.args.types.now) (record_at (function_in b) q.place)
-    (meant c.in-ok-said.said) c.in-Ask.test c.in-Ask.yes c.in-Ask.no low (ap meant c.in-Ask.is) c.in-ok-said.ensures
+    (meant c.in_ok-said.said) c.in-Ask.test c.in-Ask.yes c.in-Ask.no low (ap meant c.in-Ask.is) c.in_ok-said.ensures
     in
     search rules
 
@@ -57,7 +57,7 @@ check_block-bind-grown-requires t c =
     let q = c.args.part in
     let k =
     accepted (program_in b) (function_in b) b.function q.levels (q.end - (q.place + 1)) q.sort (take c.args.depth c.args.types.now) q.place (record_at (function_in b) q.place)
-    (meant c.in-ok-said.said) c.in-ok-said.ensures
+    (meant c.in_ok-said.said) c.in_ok-said.ensures
     in
     (k.0, (search rules, search rules))
 
@@ -73,13 +73,13 @@ check_block-returns-in-Ask t c =
           let e = spent _ f h in
           c.check_test.ensures.value e.0 (omega arith)
           ∙ block_asks (program_in b) (function_in b) b.function f e.0 q.levels (q.end - (q.place + 1)) q.place (take c.args.depth c.args.types.now) q.sort
-          (span rs q.place q.end) (record_at (function_in b) q.place) (span rs (q.place + 1) q.end) (meant c.in-ok-said.said) c.in-Ask.test c.in-Ask.yes c.in-Ask.no
-          e.1 (span_more rs q.place q.end low room) (span_length rs (q.place + 1) q.end room) (ap meant c.in-Ask.is) c.in-ok-said.ensures;
+          (span rs q.place q.end) (record_at (function_in b) q.place) (span rs (q.place + 1) q.end) (meant c.in_ok-said.said) c.in-Ask.test c.in-Ask.yes c.in-Ask.no
+          e.1 (span_more rs q.place q.end low room) (span_length rs (q.place + 1) q.end room) (ap meant c.in-Ask.is) c.in_ok-said.ensures;
       types = c.check_test.ensures.types;
     }
 
-pub check_block-returns-in-default : goal.check_block-returns-in-default
-check_block-returns-in-default t c =
+pub check_block-returns-in_default : goal.check_block-returns-in_default
+check_block-returns-in_default t c =
     let b = c.args.body in
     let q = c.args.part in
     let rs = (function_in b).records in
@@ -93,16 +93,16 @@ check_block-returns-in-default t c =
           c.check_block.ensures.value e.0 (omega arith)
           ∙ block_goes (program_in b) (function_in b) b.function f e.0 q.levels (q.end - (q.place + 1)) q.place (q.place + 1) (take c.args.depth c.args.types.now)
           (take c.bind-grown.result c.bind-grown.new.types) q.sort
-          (span rs q.place q.end) (record_at (function_in b) q.place) (span rs (q.place + 1) q.end) c.in-ok-said.said
-          e.1 (span_more rs q.place q.end low room) (span_length rs (q.place + 1) q.end room) (add-one q.place) c.bind-grown.ensures.types c.in-default.not-Ask c.in-ok-said.ensures;
+          (span rs q.place q.end) (record_at (function_in b) q.place) (span rs (q.place + 1) q.end) c.in_ok-said.said
+          e.1 (span_more rs q.place q.end low room) (span_length rs (q.place + 1) q.end room) (add-one q.place) c.bind-grown.ensures.types c.in_default.not-Ask c.in_ok-said.ensures;
       types =
           front_kept c.args.depth c.bind-grown.result c.args.types.now c.bind-grown.new.types c.check_block.new.types
-          (bound (program_in b) (function_in b) (take c.args.depth c.args.types.now) (meant c.in-ok-said.said))
+          (bound (program_in b) (function_in b) (take c.args.depth c.args.types.now) (meant c.in_ok-said.said))
           c.bind-grown.ensures.depth.0 (omega arith) c.bind-grown.ensures.types c.check_block.ensures.types;
     }
 
-pub check_test-returns-in-err-check_yes : goal.check_test-returns-in-err-check_yes
-check_test-returns-in-err-check_yes t c =
+pub check_test-returns-in_err-check_yes : goal.check_test-returns-in_err-check_yes
+check_test-returns-in_err-check_yes t c =
     let b = c.args.body in
     let q = c.args.part in
     let rs = (function_in b).records in
@@ -110,16 +110,16 @@ check_test-returns-in-err-check_yes t c =
     let fit : q.place + 1 + c.args.yes + c.args.no ≤ q.end = search rules in
     record {
       value = λ f h.
-          let p = err_from_is_err_and c.from-residual.result c.from-residual.ensures.1 in
+          let p = err_from_is_err_and c.from_residual.result c.from_residual.ensures.1 in
           p.1 ∙ ap Err p.2
           ∙ test_first (program_in b) (function_in b) b.function (scan (program_in b) (function_in b) b.function f) q.levels q.place (take c.args.depth c.args.types.now) q.sort
           c.args.test c.args.yes c.args.no (span rs i1 q.end) (span rs i1 (i1 + c.args.yes)) _ i1 (add-one q.place) (yes_span rs i1 q.end c.args.yes c.args.no fit)
-          (c.in-err-check_yes.ensures.value f (omega arith));
+          (c.in_err-check_yes.ensures.value f (omega arith));
       types = c.check_yes.ensures.types;
     }
 
-pub check_test-returns-in-err-check_block : goal.check_test-returns-in-err-check_block
-check_test-returns-in-err-check_block t c =
+pub check_test-returns-in_err-check_block : goal.check_test-returns-in_err-check_block
+check_test-returns-in_err-check_block t c =
     let b = c.args.body in
     let q = c.args.part in
     let rs = (function_in b).records in
@@ -127,14 +127,14 @@ check_test-returns-in-err-check_block t c =
     let fit : q.place + 1 + c.args.yes + c.args.no ≤ q.end = search rules in
     record {
       value = λ f h.
-          let p = err_from_is_err_and c.from-residual-in-err-check_block.result c.from-residual-in-err-check_block.ensures.1 in
+          let p = err_from_is_err_and c.from_residual-in_err-check_block.result c.from_residual-in_err-check_block.ensures.1 in
           p.1 ∙ ap Err p.2
           ∙ test_second (program_in b) (function_in b) b.function (scan (program_in b) (function_in b) b.function f) q.levels q.place
           (take c.args.depth c.check_yes.new.types) (take c.args.depth c.args.types.now) q.sort
           c.args.test c.args.yes c.args.no (span rs i1 q.end) (span rs i1 (i1 + c.args.yes)) (span rs (i1 + c.args.yes) (i1 + c.args.yes + c.args.no)) _
           i1 (i1 + c.args.yes) (add-one q.place) (ap (λ n. n + c.args.yes) (add-one q.place))
           (yes_span rs i1 q.end c.args.yes c.args.no fit) (no_span rs i1 q.end c.args.yes c.args.no fit) c.check_yes.ensures.types
-          (c.in-ok-check_yes.ensures.value f (omega arith)) (c.in-err-check_block.ensures.value f (omega arith));
+          (c.in_ok-check_yes.ensures.value f (omega arith)) (c.in_err-check_block.ensures.value f (omega arith));
       types = c.check_block.ensures.types ∙ c.check_yes.ensures.types;
     }
 
@@ -155,7 +155,7 @@ check_test-returns t c =
           (ap (λ n. n + c.args.yes + c.args.no) (add-one q.place))
           (yes_span rs i1 q.end c.args.yes c.args.no fit) (no_span rs i1 q.end c.args.yes c.args.no fit) (rest_span rs i1 q.end c.args.yes c.args.no fit)
           c.check_yes.ensures.types c.check_block.ensures.types
-          (c.in-ok-check_yes.ensures.value f (omega arith)) (c.in-ok-check_block.ensures.value f (omega arith));
+          (c.in_ok-check_yes.ensures.value f (omega arith)) (c.in_ok-check_block.ensures.value f (omega arith));
       types = c.check_block-2.ensures.types ∙ c.check_block.ensures.types ∙ c.check_yes.ensures.types;
     }
 
@@ -164,16 +164,16 @@ check_yes-changes-change-requires t c =
     let b = c.args.body in
     accepted_changes (program_in b) (function_in b) (seen_narrow b.table) (take c.args.depth c.args.types.now) c.args.test c.requires.1.1.1.0
 
-pub check_yes-returns-in-err-check_block : goal.check_yes-returns-in-err-check_block
-check_yes-returns-in-err-check_block t c =
+pub check_yes-returns-in_err-check_block : goal.check_yes-returns-in_err-check_block
+check_yes-returns-in_err-check_block t c =
     let long : 16 ≤ length c.args.types.now = search rules in
     let deep : c.args.depth ≤ 16 = search rules in
     let low : c.changes-change.result.slot < c.args.depth = omega (arith, c.changes-change.ensures.slot, length-take c.args.depth c.args.types.now) in
     let k = front_changed c.args.depth c.args.types.now (yes_types (program_in c.args.body) (function_in c.args.body) (take c.args.depth c.args.types.now) c.args.test) c.changes-change.result.slot c.changes-change.result.ty low c.changes-change.ensures.types in
     record {
       value = λ f h.
-          let p = err_from_is_err_and c.from-residual.result c.from-residual.ensures.1 in
-          p.1 ∙ ap Err p.2 ∙ c.in-err-check_block.ensures.value f h ∙ ap (λ (vs : List Ty). scanned f c.args.body vs c.args.part) k;
+          let p = err_from_is_err_and c.from_residual.result c.from_residual.ensures.1 in
+          p.1 ∙ ap Err p.2 ∙ c.in_err-check_block.ensures.value f h ∙ ap (λ (vs : List Ty). scanned f c.args.body vs c.args.part) k;
       types = front_back c.args.depth c.args.types.now c.check_block.new.types _ c.changes-change.result.slot c.changes-change.result.ty number low c.check_block.ensures.types c.drop-guard.ensures;
     }
 
@@ -185,6 +185,6 @@ check_yes-returns t c =
     let k = front_changed c.args.depth c.args.types.now (yes_types (program_in c.args.body) (function_in c.args.body) (take c.args.depth c.args.types.now) c.args.test) c.changes-change.result.slot c.changes-change.result.ty low c.changes-change.ensures.types in
     record {
       value = λ f h.
-          c.in-ok-check_block.ensures.value f h ∙ ap (λ (vs : List Ty). scanned f c.args.body vs c.args.part) k;
+          c.in_ok-check_block.ensures.value f h ∙ ap (λ (vs : List Ty). scanned f c.args.body vs c.args.part) k;
       types = front_back c.args.depth c.args.types.now c.check_block.new.types _ c.changes-change.result.slot c.changes-change.result.ty number low c.check_block.ensures.types c.drop-guard-2.ensures;
     }

@@ -19,17 +19,17 @@ loop-function-preserved c =
     let i = c.loop-function.function in
     let size = seen_functions t in
     let low : i < length (seen t).functions = omega arith in
-    bodies_go (seen t) i low c.loop-function.invariant c.in-ok-check_body.ensures
+    bodies_go (seen t) i low c.loop-function.invariant c.in_ok-check_body.ensures
 
-pub returns-in-err-check_body : goal.returns-in-err-check_body
-returns-in-err-check_body c =
+pub returns-in_err-check_body : goal.returns-in_err-check_body
+returns-in_err-check_body c =
     let t = c.args.table.now in
     let i = c.loop-function.function in
     let size = seen_functions t in
     let low : i < length (seen t).functions = omega arith in
-    let p = err_from_is_err_and c.from-residual.result c.from-residual.ensures.1 in
+    let p = err_from_is_err_and c.from_residual.result c.from_residual.ensures.1 in
     let value =
-    p.1 ∙ ap Err p.2 ∙ bodies_stop (seen t) i _ low c.loop-function.invariant c.in-err-check_body.ensures
+    p.1 ∙ ap Err p.2 ∙ bodies_stop (seen t) i _ low c.loop-function.invariant c.in_err-check_body.ensures
     ∙ checked_large (length c.args.scratch.now) (seen t) c.if-scratch-lt128.false
     in
     let is = seen_checked t (length c.args.scratch.now) _ value in

@@ -19,7 +19,7 @@ returns-then-not-fits c =
     let q = c.args.part in
     ap Err c.new-then-not-fits.ensures
     ∙ judged_misplaced (program_in b) (function_in b) b.function q.levels (q.end - (q.place + 1)) q.sort c.args.types.now q.place (record_at (function_in b) q.place)
-    (meant c.in-Some.said) c.in-Some.ensures (sym (none_left c.refusal.result c.in-default-refusal.not-Some) ∙ c.refusal.ensures) (sym c.fits.ensures ∙ c.if-not-fits.true)
+    (meant c.in-Some.said) c.in-Some.ensures (sym (none_left c.refusal.result c.in_default-refusal.not-Some) ∙ c.refusal.ensures) (sym c.fits.ensures ∙ c.if-not-fits.true)
 
 pub returns-then-types-part : goal.returns-then-types-part
 returns-then-types-part c = absurd (omega arith)

@@ -5,15 +5,15 @@ use Rattle.rules.specs.Seen.{program_in, function_in}
 use Rattle.rules.proofs.Walk.{none_meant, allowed_some, allowed_test, never_refused, toward_plain}
 use Rattle.rules.proofs.walking.advance.Goals as goal
 
-pub returns-in-default : goal.returns-in-default
-returns-in-default c =
+pub returns-in_default : goal.returns-in_default
+returns-in_default c =
     let b = c.args.body in
     let near : c.args.from.place < c.args.index = search rules in
     record {
       nearer = tt;
       leads = λ way ok there.
           never_refused (program_in b) (function_in b) c.args.index ok there c.args.from.place (take c.args.from.depth c.args.types.now) near (way ok there)
-          (none_meant c.allowed.result c.in-default.not-Some ∙ c.allowed.ensures);
+          (none_meant c.allowed.result c.in_default.not-Some ∙ c.allowed.ensures);
     }
 
 pub pass_test-place-requires : goal.pass_test-place-requires
@@ -45,8 +45,8 @@ returns-in-Ask c =
       leads = λ way ok there. c.pass_test-place.ensures.leads way (omega arith, a.0 ∙ ap Some (ap meant c.in-Ask.is)) ok there;
     }
 
-pub returns-in-default-said : goal.returns-in-default-said
-returns-in-default-said c =
+pub returns-in_default-said : goal.returns-in_default-said
+returns-in_default-said c =
     let b = c.args.body in
     let ts = take c.args.from.depth c.args.types.now in
     let near : c.args.from.place < c.args.index = search rules in
@@ -55,5 +55,5 @@ returns-in-default-said c =
       nearer = (omega arith, omega arith, c.bind-depth.ensures.depth.1);
       leads = λ way ok there.
           toward_plain (program_in b) (function_in b) c.args.index ok there c.args.from.place (c.args.from.place + 1) ts (take c.bind-depth.result c.bind-depth.new.types) c.in-Some.said
-          (add-one c.args.from.place) near (way ok there) a.0 c.in-default-said.not-Ask c.bind-depth.ensures.types;
+          (add-one c.args.from.place) near (way ok there) a.0 c.in_default-said.not-Ask c.bind-depth.ensures.types;
     }

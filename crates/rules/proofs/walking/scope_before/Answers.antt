@@ -11,9 +11,9 @@ returns-then-index-records c = record { missing = λ h. refl; small = λ h. refl
 pub returns-then-scratch-lt16 : goal.returns-then-scratch-lt16
 returns-then-scratch-lt16 c = record { missing = λ h. refl; small = λ h. refl; found = λ v there room. absurd (omega arith) }
 
-pub returns-in-default : goal.returns-in-default
+pub returns-in_default : goal.returns-in_default
 unfolding seen
-returns-in-default c =
+returns-in_default c =
     let p = seen c.args.table.now in
     let fn = callee p c.args.function in
     record {
@@ -21,7 +21,7 @@ returns-in-default c =
       small = λ h. refl;
       found = λ v there room.
           let ok = accepted_of p c.args.function c.args.index v there in
-          absurd (no_step (record { table = c.args.table.now; function = c.args.function }) c.args.index c.advance.new.types c.advance.result c.in-default.not-Some (c.advance.ensures.leads c.loop-at.invariant.2) ok there);
+          absurd (no_step (record { table = c.args.table.now; function = c.args.function }) c.args.index c.advance.new.types c.advance.result c.in_default.not-Some (c.advance.ensures.leads c.loop-at.invariant.2) ok there);
     }
 
 pub returns : goal.returns

@@ -12,7 +12,7 @@ returns-in-Some g c =
 pub loop-lower-preserved : goal.loop-lower-preserved
 loop-lower-preserved g c =
     let m = g.M.Memory.model c.args.memory.now in
-    sym (pair_next (program_of c.args.table.now) m c.args.threads.now c.loop-lower.lower c.loop-lower-test.true c.in-default.ensures)
+    sym (pair_next (program_of c.args.table.now) m c.args.threads.now c.loop-lower.lower c.loop-lower-test.true c.in_default.ensures)
     ∙ c.loop-lower.invariant
 
 pub returns : goal.returns

@@ -19,10 +19,10 @@ no_thread = record { status = Running; depth = 0; frames = [] }
 pub settle-requires : goal.settle-requires
 settle-requires c = fits_thread c.args.machine.now.threads c.args.machine.now.count c.args.thread no_thread c.requires.1.0 (length (tasks_of c.args.machine.now)) c.args.outcome c.requires.1.1
 
-pub returns-in-default : goal.returns-in-default
-returns-in-default c =
+pub returns-in_default : goal.returns-in_default
+returns-in_default c =
     task_settled c.args.machine.now.threads c.args.machine.now.count c.args.thread no_thread c.requires.1.0 _ c.args.outcome c.settle.ensures
-    ∙ joins_none (set (tasks_of c.args.machine.now) c.args.thread (task_after (get_or (tasks_of c.args.machine.now) c.args.thread no_task).frames c.args.outcome)) (forked_by c.args.outcome) (forks_none c.args.outcome c.in-default.not-Forks)
+    ∙ joins_none (set (tasks_of c.args.machine.now) c.args.thread (task_after (get_or (tasks_of c.args.machine.now) c.args.thread no_task).frames c.args.outcome)) (forked_by c.args.outcome) (forks_none c.args.outcome c.in_default.not-Forks)
 
 pub returns-in-Forks : goal.returns-in-Forks
 returns-in-Forks c =

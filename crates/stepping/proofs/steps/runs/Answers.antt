@@ -22,8 +22,8 @@ returns-in-Running c =
     let e = task_read c.args.machine.now.threads c.args.machine.now.count c.args.thread no_thread l in
     sym (ap is_running c.in-Running.is) ∙ ap (λ (t : Task). is_running t.status) e
 
-pub returns-in-default : goal.returns-in-default
-returns-in-default c =
+pub returns-in_default : goal.returns-in_default
+returns-in_default c =
     let l : c.args.thread < length (tasks_of c.args.machine.now) = omega (arith, c.len.ensures.value) in
     let e = task_read c.args.machine.now.threads c.args.machine.now.count c.args.thread no_thread l in
-    runs_not _ c.in-default.not-Running ∙ ap (λ (t : Task). is_running t.status) e
+    runs_not _ c.in_default.not-Running ∙ ap (λ (t : Task). is_running t.status) e

@@ -84,8 +84,8 @@ returns-in-Some g c =
     let done = taken_all W _ _ _ (out_of o) xs _ s V h in
     record { value = done.0; world = done.1; out = done.2; room = c.push.ensures.room }
 
-pub returns-in-default : goal.returns-in-default
-returns-in-default g c =
+pub returns-in_default : goal.returns-in_default
+returns-in_default g c =
     let p = program_of c.args.table.now in
     let m = g.M.Memory.model c.args.memory.now in
     let n = g.M.Memory.model c.turn.new.memory in
@@ -99,5 +99,5 @@ returns-in-default g c =
     let s = ap (λ (k : ℕ). stepped p k W i) (sym c.free-free.ensures)
     ∙ step_taken p c.free-free.result W i (frames_of (get_or c.args.machine.now.threads i no_thread)) c.len-count.result (ap (λ (k : Task). k.frames) t) c.len-count.ensures.value r n o c.in-Ok.ensures.value in
     let V = ap (λ (ts : List Task). record { tasks = ts; memory = n }) c.commit.ensures in
-    let done = taken_all W _ _ _ (out_of o) xs _ s V (ap (listed xs) c.in-default.ensures) in
+    let done = taken_all W _ _ _ (out_of o) xs _ s V (ap (listed xs) c.in_default.ensures) in
     record { value = done.0; world = done.1; out = done.2; room = refl }

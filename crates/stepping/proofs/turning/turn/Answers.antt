@@ -7,20 +7,20 @@ use Rattle.stepping.specs.Turns.{acted, FitsIn}
 use Rattle.stepping.proofs.Takes.{stands-nowhere, stands_at, takes_nothing, takes, acted_fits, acted_kept}
 use Rattle.stepping.proofs.turning.turn.Goals as goal
 
-pub returns-in-default : goal.returns-in-default
-returns-in-default g c =
+pub returns-in_default : goal.returns-in_default
+returns-in_default g c =
     let p = program_of c.args.table.now in
     let m = g.M.Memory.model c.args.memory.now in
     let fs = frames_of c.args.thread.now in
-    record { value = takes_nothing p fs m c.args.threads c.args.room (stands-nowhere p fs (sym c.in-default.is ∙ c.frame_below.ensures)); kept = λ n e. refl; fits = tt }
+    record { value = takes_nothing p fs m c.args.threads c.args.room (stands-nowhere p fs (sym c.in_default.is ∙ c.frame_below.ensures)); kept = λ n e. refl; fits = tt }
 
-pub returns-in-default-op_at : goal.returns-in-default-op_at
-returns-in-default-op_at g c =
+pub returns-in_default-op_at : goal.returns-in_default-op_at
+returns-in_default-op_at g c =
     let p = program_of c.args.table.now in
     let m = g.M.Memory.model c.args.memory.now in
     let fs = frames_of c.args.thread.now in
     let s = stands_at p fs c.in-Some.frame c.in-Some.ensures in
-    record { value = takes_nothing p fs m c.args.threads c.args.room (c.in-default-op_at.ensures.value ∙ s.1); kept = λ n e. refl; fits = tt }
+    record { value = takes_nothing p fs m c.args.threads c.args.room (c.in_default-op_at.ensures.value ∙ s.1); kept = λ n e. refl; fits = tt }
 
 pub returns : goal.returns
 returns g c =

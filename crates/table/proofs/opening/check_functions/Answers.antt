@@ -6,11 +6,11 @@ use Rattle.table.proofs.Listing.{each_next, each_refused, each_ends}
 use Rattle.table.proofs.opening.check_functions.Goals as goal
 
 pub loop-n-preserved : goal.loop-n-preserved
-loop-n-preserved c = each_next (function_passes (bytes_of c.args.table.now)) c.loop-n.n c.in-ok-check_function.field-0 c.loop-n.invariant c.in-ok-check_function.ensures
+loop-n-preserved c = each_next (function_passes (bytes_of c.args.table.now)) c.loop-n.n c.in_ok-check_function.field-0 c.loop-n.invariant c.in_ok-check_function.ensures
 
-pub returns-in-err-check_function : goal.returns-in-err-check_function
-returns-in-err-check_function c =
-    each_refused (function_count (bytes_of c.args.table.now)) (function_passes (bytes_of c.args.table.now)) c.loop-n.n c.in-err-check_function.field-0.0 c.from-residual.result (omega arith) c.loop-n.invariant c.in-err-check_function.ensures c.from-residual.ensures.1
+pub returns-in_err-check_function : goal.returns-in_err-check_function
+returns-in_err-check_function c =
+    each_refused (function_count (bytes_of c.args.table.now)) (function_passes (bytes_of c.args.table.now)) c.loop-n.n c.in_err-check_function.field-0.0 c.from_residual.result (omega arith) c.loop-n.invariant c.in_err-check_function.ensures c.from_residual.ensures.1
 
 pub returns : goal.returns
 returns c = each_ends (function_count (bytes_of c.args.table.now)) (function_passes (bytes_of c.args.table.now)) c.loop-n.n (omega arith) c.loop-n.invariant

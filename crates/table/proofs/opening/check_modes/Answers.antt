@@ -6,11 +6,11 @@ use Rattle.table.proofs.Listing.{each_next, each_refused, each_ends}
 use Rattle.table.proofs.opening.check_modes.Goals as goal
 
 pub loop-f-preserved : goal.loop-f-preserved
-loop-f-preserved c = each_next (mode_passes (bytes_of c.args.table.now) c.args.s) c.loop-f.f c.in-ok-check_mode.field-0 c.loop-f.invariant c.in-ok-check_mode.ensures
+loop-f-preserved c = each_next (mode_passes (bytes_of c.args.table.now) c.args.s) c.loop-f.f c.in_ok-check_mode.field-0 c.loop-f.invariant c.in_ok-check_mode.ensures
 
-pub returns-in-err-check_mode : goal.returns-in-err-check_mode
-returns-in-err-check_mode c =
-    each_refused (field_count (bytes_of c.args.table.now) c.args.s) (mode_passes (bytes_of c.args.table.now) c.args.s) c.loop-f.f c.in-err-check_mode.field-0.0 c.from-residual.result (omega arith) c.loop-f.invariant c.in-err-check_mode.ensures c.from-residual.ensures.1
+pub returns-in_err-check_mode : goal.returns-in_err-check_mode
+returns-in_err-check_mode c =
+    each_refused (field_count (bytes_of c.args.table.now) c.args.s) (mode_passes (bytes_of c.args.table.now) c.args.s) c.loop-f.f c.in_err-check_mode.field-0.0 c.from_residual.result (omega arith) c.loop-f.invariant c.in_err-check_mode.ensures c.from_residual.ensures.1
 
 pub returns : goal.returns
 returns c = each_ends (field_count (bytes_of c.args.table.now) c.args.s) (mode_passes (bytes_of c.args.table.now) c.args.s) c.loop-f.f (omega arith) c.loop-f.invariant

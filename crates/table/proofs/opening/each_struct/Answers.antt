@@ -6,11 +6,11 @@ use Rattle.table.proofs.Listing.{each_next, each_refused, each_ends}
 use Rattle.table.proofs.opening.each_struct.Goals as goal
 
 pub loop-s-preserved : goal.loop-s-preserved
-loop-s-preserved c = each_next (struct_passes (bytes_of c.args.table.now)) c.loop-s.s c.in-ok-check_struct.field-0 c.loop-s.invariant c.in-ok-check_struct.ensures
+loop-s-preserved c = each_next (struct_passes (bytes_of c.args.table.now)) c.loop-s.s c.in_ok-check_struct.field-0 c.loop-s.invariant c.in_ok-check_struct.ensures
 
-pub returns-in-err-check_struct : goal.returns-in-err-check_struct
-returns-in-err-check_struct c =
-    each_refused (struct_count (bytes_of c.args.table.now)) (struct_passes (bytes_of c.args.table.now)) c.loop-s.s c.in-err-check_struct.field-0.0 c.from-residual.result (omega arith) c.loop-s.invariant c.in-err-check_struct.ensures c.from-residual.ensures.1
+pub returns-in_err-check_struct : goal.returns-in_err-check_struct
+returns-in_err-check_struct c =
+    each_refused (struct_count (bytes_of c.args.table.now)) (struct_passes (bytes_of c.args.table.now)) c.loop-s.s c.in_err-check_struct.field-0.0 c.from_residual.result (omega arith) c.loop-s.invariant c.in_err-check_struct.ensures c.from_residual.ensures.1
 
 pub returns : goal.returns
 returns c = each_ends (struct_count (bytes_of c.args.table.now)) (struct_passes (bytes_of c.args.table.now)) c.loop-s.s (omega arith) c.loop-s.invariant

@@ -18,7 +18,7 @@ returns g c =
     let n = g.M.Memory.model c.settle.new.memory in
     let a : (given F.slots x && given F.slots y) ≡ true = search rules in
     let b : (is_reference (at F.slots x) && is_reference (at F.slots y) && refers p m (at F.slots x) f) ≡ true = search rules in
-    let q = resolved_as p m c.at-a.result (at F.slots x) f c.in-ok-target.field-0 t c.in-Some.is c.in-ok-target.ensures.value c.at-a.ensures in
-    let done = test_settles p m n F F x f (given F.slots x && given F.slots y) (is_reference (at F.slots x) && is_reference (at F.slots y)) c.in-ok-word.word (word_of (at F.slots y)) c.in-ok-word.word (word_of (at F.slots y)) true F.slots t c.settle.result a b q
-    refl (word_of_slot c.in-ok-word.word c.at-b.result (at F.slots y) c.in-ok-word.ensures c.at-b.ensures) (word_of_slot c.in-ok-word.word c.at-b.result (at F.slots y) c.in-ok-word.ensures c.at-b.ensures) c.settle.ensures.value c.settle.ensures.after in
+    let q = resolved_as p m c.at-a.result (at F.slots x) f c.in_ok-target.field-0 t c.in-Some.is c.in_ok-target.ensures.value c.at-a.ensures in
+    let done = test_settles p m n F F x f (given F.slots x && given F.slots y) (is_reference (at F.slots x) && is_reference (at F.slots y)) c.in_ok-word.word (word_of (at F.slots y)) c.in_ok-word.word (word_of (at F.slots y)) true F.slots t c.settle.result a b q
+    refl (word_of_slot c.in_ok-word.word c.at-b.result (at F.slots y) c.in_ok-word.ensures c.at-b.ensures) (word_of_slot c.in_ok-word.word c.at-b.result (at F.slots y) c.in_ok-word.ensures c.at-b.ensures) c.settle.ensures.value c.settle.ensures.after in
     record { value = done.0; after = done.1 }

@@ -4,11 +4,11 @@ use Rattle.memory.specs.Model.{with_object, after_add}
 use Rattle.memory.proofs.Encoding.{length_image, image_grown, image_sized}
 use Rattle.memory.proofs.byte_image.ByteImageMemory.add.Goals as goal
 
-pub returns-in-err-present : goal.returns-in-err-present
-returns-in-err-present c = search (rules, length_image)
+pub returns-in_err-present : goal.returns-in_err-present
+returns-in_err-present c = search (rules, length_image)
 
-pub returns-in-err-demand : goal.returns-in-err-demand
-returns-in-err-demand c = search (rules, length_image)
+pub returns-in_err-demand : goal.returns-in_err-demand
+returns-in_err-demand c = search (rules, length_image)
 
 pub returns : goal.returns
 returns c =
