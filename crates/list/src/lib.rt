@@ -1,5 +1,6 @@
 // A list over a slice that its caller lends: types in scope, open blocks, and numbers put out.
 #![tactic(auto)]
+
 ghost use Rattle.std.specs.Prelude.{◌≡◌, ◌+◌, ◌-◌, ◌<◌, ◌≤◌, ltb, [], length, if◌then◌else◌, nat_lt, slice_set};
 ghost use Rattle.list.specs.Held.{held, room, pushed, last_of, popped};
 

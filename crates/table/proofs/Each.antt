@@ -1,5 +1,5 @@
 -- Conditions that are not refused, and what holds of all that is listed by places.
-use Rattle.std.proofs.Common.{◌≡◌, ℕ, zero, suc, ◌+◌, ◌<◌, Bool, true, false, [], ◌∷◌, map, get_or, Ok, Err, Result, refl, arith}
+use Rattle.std.proofs.Common.{◌≡◌, ℕ, zero, suc, ◌+◌, ◌<◌, Bool, true, false, map, get_or, Ok, Err, Result, refl, arith}
 use Rattle.std.specs.List.{range_with_len}
 use Rattle.table.specs.declared.fault.Place.{Place}
 use Rattle.table.specs.declared.fault.Fault.{Fault}

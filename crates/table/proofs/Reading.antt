@@ -1,11 +1,11 @@
 -- What the places of a table's bytes give of its program.
-use Rattle.std.proofs.Common.{◌≡◌, ℕ, ◌+◌, ◌*◌, ◌<◌, ◌≤◌, Bool, true, false, cond, ◌&&◌, eqb, List, [], length, get_or, take, drop, Some, None, Ok, Err, Option, sym, refl, ap, ◌∙◌, add-one, arith}
+use Rattle.std.proofs.Common.{◌≡◌, ℕ, ◌+◌, ◌*◌, ◌<◌, ◌≤◌, false, eqb, List, [], length, take, drop, Some, None, Err, Option, sym, refl, ap, ◌∙◌, add-one, arith}
 use Rattle.std.proofs.lemmas.Bool.Decides.{nat_tests}
 use Rattle.std.specs.List.{slice_get}
 use Rattle.std.specs.Option.{option_map}
 use Rattle.table.specs.declared.view.Lacking.TheVariants.{Missing}
-use Rattle.table.specs.Records.{Op, decoded, form_of, fits, op_of, test_of, asked_by, number_of, slot_byte}
-use Rattle.table.specs.Program.{Function, contents, struct_total, struct_at, field_total, field_at, function_total, function_at, param_total, param_place, result_place, record_total, record_at, type_at, byte, struct_place, record_place}
+use Rattle.table.specs.Records.{Op, decoded}
+use Rattle.table.specs.Program.{contents, struct_total, struct_at, field_total, field_at, function_total, function_at, param_total, param_place, result_place, record_total, record_at, type_at, byte, struct_place, record_place}
 use Rattle.table.specs.Reading.{no_function, fields_of, function_of, field_of, param_of, result_of, present, record_of}
 use Rattle.table.proofs.Listing.{length_listing, get_d_listing, lacks_listing, nth_listing, past_listing}
 

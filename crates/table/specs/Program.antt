@@ -1,12 +1,12 @@
 -- The program that a table's bytes hold, and the refusals of a table that holds none.
-use Rattle.std.specs.Prelude.{ℕ, zero, suc, ◌+◌, ◌-◌, ◌*◌, ◌/◌, ◌%◌, min, Bool, true, false, cond, not, ◌&&◌, ◌||◌, List, [], ◌∷◌, map, length, take, drop, Ok, Err, Option, Result, ◌==◌, nat_le, nat_lt, slice_index}
+use Rattle.std.specs.Prelude.{ℕ, zero, suc, ◌+◌, ◌-◌, ◌*◌, ◌/◌, ◌%◌, min, Bool, cond, ◌&&◌, List, map, length, take, drop, Ok, Option, Result, ◌==◌, nat_le, nat_lt, slice_index}
 use Rattle.std.specs.List.{range_with_len}
 use Rattle.table.specs.declared.fault.Place.TheVariants.{Byte}
 use Rattle.table.specs.declared.fault.Fault.{Fault}
 use Rattle.table.specs.declared.types.Ty.{Ty}
 use Rattle.table.specs.declared.types.Field.{Field}
 use Rattle.table.specs.Faults.{Passes, need, each, ◌>>=◌}
-use Rattle.table.specs.Types.{kind_of, mode_of, type_of, keeps, field_keeps}
+use Rattle.table.specs.Types.{mode_of, type_of, keeps, field_keeps}
 use Rattle.table.specs.Records.{Op, decoded}
 
 pub record Function : Type 0 where

@@ -1,5 +1,5 @@
 -- What a program has at each place, and the program that an opened table stands for.
-use Rattle.std.specs.Prelude.{ℕ, List, [], ◌∷◌, length, Some, None, Ok, Err, Option, Result, slice_index_or}
+use Rattle.std.specs.Prelude.{ℕ, List, [], Some, None, Ok, Err, Option, Result, slice_index_or}
 use Rattle.std.specs.List.{slice_get}
 use Rattle.std.specs.Option.{option_map}
 use Rattle.table.specs.declared.fault.Fault.{Fault}

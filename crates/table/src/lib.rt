@@ -1,5 +1,6 @@
 // The bytes of a table, and what they hold. Nothing above this crate reads a byte of a table.
 #![tactic(auto)]
+
 mod decoding;
 pub mod fault;
 mod forms;

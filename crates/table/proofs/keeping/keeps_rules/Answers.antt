@@ -1,5 +1,4 @@
-use Rattle.std.proofs.Common.{◌≡◌, ◌<◌, ◌≤◌, false, sym, ◌∙◌, arith}
-use Rattle.table.specs.Types.{is_number}
+use Rattle.std.proofs.Common.{sym, ◌∙◌, arith}
 use Rattle.table.specs.Reading.{bytes_of}
 use Rattle.table.proofs.Sets.{keeps_reference, lacks_struct}
 use Rattle.table.proofs.keeping.keeps_rules.Goals as goal

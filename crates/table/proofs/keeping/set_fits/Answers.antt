@@ -1,4 +1,4 @@
-use Rattle.std.proofs.Common.{◌≡◌, ◌<◌, ◌≤◌, sym, ◌∙◌, arith}
+use Rattle.std.proofs.Common.{◌≤◌, sym, ◌∙◌, arith}
 use Rattle.table.specs.Types.{set_fits}
 use Rattle.table.specs.Program.{struct_at, field_total, field_at}
 use Rattle.table.specs.Reading.{bytes_of}

@@ -1,4 +1,4 @@
-use Rattle.std.proofs.Common.{◌+◌, arith}
+use Rattle.std.proofs.Common.{arith}
 use Rattle.table.specs.Faults.{each}
 use Rattle.table.specs.Program.{field_count, field_type_passes, struct_count}
 use Rattle.table.specs.Reading.{bytes_of}

@@ -1,5 +1,4 @@
-use Rattle.std.proofs.Common.{◌+◌, arith}
-use Rattle.table.specs.Faults.{each}
+use Rattle.std.proofs.Common.{arith}
 use Rattle.table.specs.Program.{field_count, mode_passes}
 use Rattle.table.specs.Reading.{bytes_of}
 use Rattle.table.proofs.Listing.{each_next, each_refused, each_ends}

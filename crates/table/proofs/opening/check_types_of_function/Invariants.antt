@@ -1,4 +1,4 @@
-use Rattle.std.proofs.Common.{◌≡◌, ◌+◌, Ok}
+use Rattle.std.proofs.Common.{◌≡◌, Ok}
 use Rattle.table.specs.Faults.{each}
 use Rattle.table.specs.Program.{param_place, type_passes}
 use Rattle.table.specs.Reading.{bytes_of}

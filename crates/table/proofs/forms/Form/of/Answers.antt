@@ -1,4 +1,4 @@
-use Rattle.std.proofs.Common.{sym, arith, rules}
+use Rattle.std.proofs.Common.{sym, arith}
 use Rattle.std.proofs.lemmas.List.{get_or_past}
 use Rattle.table.specs.Records.{forms, no_op}
 use Rattle.table.proofs.forms.Form.of.Goals as goal

@@ -1,6 +1,6 @@
-use Rattle.std.proofs.Common.{◌≡◌, ◌+◌, ◌*◌, ◌<◌, ◌≤◌, Some, sym, ap, ◌∙◌, arith}
+use Rattle.std.proofs.Common.{◌<◌, ◌≤◌, Some, sym, ap, ◌∙◌, arith}
 use Rattle.table.specs.Reading.{bytes_of}
-use Rattle.table.specs.Program.{struct_total, field_total, type_at}
+use Rattle.table.specs.Program.{struct_total, field_total}
 use Rattle.table.proofs.Reading.{struct_lacks_field, field_lacks, field_read}
 use Rattle.table.proofs.view.Table.field.Goals as goal
 

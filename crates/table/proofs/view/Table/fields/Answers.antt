@@ -1,4 +1,4 @@
-use Rattle.std.proofs.Common.{◌≡◌, ◌+◌, ◌*◌, ◌<◌, ◌≤◌, sym, ap, ◌∙◌, arith}
+use Rattle.std.proofs.Common.{◌<◌, ◌≤◌, sym, ◌∙◌, arith}
 use Rattle.table.specs.Reading.{bytes_of}
 use Rattle.table.specs.Program.{struct_total}
 use Rattle.table.proofs.Reading.{field_counts, no_fields}

@@ -1,4 +1,4 @@
-use Rattle.std.proofs.Common.{◌≡◌, ◌+◌, ◌*◌, ◌<◌, ◌≤◌, Some, sym, ap, ◌∙◌, arith}
+use Rattle.std.proofs.Common.{◌<◌, ◌≤◌, Some, sym, ap, ◌∙◌, arith}
 use Rattle.table.specs.Reading.{bytes_of}
 use Rattle.table.specs.Program.{function_total, param_total, type_at}
 use Rattle.table.proofs.Reading.{function_lacks_param, param_lacks, param_read}

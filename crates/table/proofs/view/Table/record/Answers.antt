@@ -1,4 +1,4 @@
-use Rattle.std.proofs.Common.{◌≡◌, ◌+◌, ◌*◌, ◌<◌, ◌≤◌, Some, None, sym, ap, ◌∙◌, arith}
+use Rattle.std.proofs.Common.{◌<◌, ◌≤◌, Some, None, sym, arith}
 use Rattle.table.specs.Records.{meant}
 use Rattle.table.specs.Reading.{bytes_of}
 use Rattle.table.specs.Program.{function_total, record_total}

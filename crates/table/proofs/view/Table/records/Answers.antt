@@ -1,4 +1,4 @@
-use Rattle.std.proofs.Common.{◌≡◌, ◌+◌, ◌*◌, ◌<◌, ◌≤◌, sym, ap, ◌∙◌, arith}
+use Rattle.std.proofs.Common.{◌<◌, ◌≤◌, sym, ◌∙◌, arith}
 use Rattle.table.specs.Reading.{bytes_of}
 use Rattle.table.specs.Program.{function_total}
 use Rattle.table.proofs.Reading.{record_counts, no_records}

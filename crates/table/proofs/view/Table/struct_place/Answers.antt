@@ -1,4 +1,4 @@
-use Rattle.std.proofs.Common.{◌≡◌, ◌+◌, ◌*◌, ◌<◌, ◌≤◌, sym, ap, ◌∙◌, arith}
+use Rattle.std.proofs.Common.{arith}
 use Rattle.table.specs.Reading.{bytes_of}
 use Rattle.table.proofs.Reading.{struct_more}
 use Rattle.table.proofs.view.Table.struct_place.Goals as goal
