@@ -13,8 +13,8 @@ use Rattle.table.specs.declared.records.Test.TheVariants.{Nil, Same, Equal, Less
 use Rattle.table.specs.Types.{is_number, is_alias, is_owned, is_pristine, is_var, is_val, is_once, is_spec, may_withhold, set_fits, keeps}
 use Rattle.table.specs.Records.{Op, New, Null, Int, Share, Own, Get, Take, Set, Add, Call, Fork, Return, Again, Join, Emit, Ask}
 use Rattle.table.specs.Program.{Function, Program}
-use Rattle.rules.specs.Rules.{record_at, callee, first, has, with, without, flows, flows_by, type, slot, number, no_field, withholding, read, asks, premises, bound, yes_types, there, free, lasting, held, tentative, field_mode, field_type}
-use Rattle.rules.specs.Scopes.{Block, Yes, No, State, state, saved, close, shape, inside, placed, grown, move, before}
+use Rattle.rules.specs.Rules.{record_at, callee, first, has, with, without, flows, flows_by, type, slot, number, no_field, withholding, read, asks, premises, bound, yes_types, there, free, lasting, tentative, field_mode, field_type}
+use Rattle.rules.specs.Scopes.{Block, Yes, No, State, state, close, shape, inside, placed, grown, move, before}
 use Rattle.rules.specs.Formed.{Sound, AllKeep, Formed}
 use Rattle.rules.specs.Blocks.{Accepted, Fit, FitStands}
 use Rattle.rules.proofs.Steps.{good, after_good, before_suc}

@@ -1,5 +1,5 @@
 -- Sets of fields, bit by bit.
-use Rattle.std.proofs.Common.{◌≡◌, ℕ, zero, suc, ◌-◌, ◌/◌, ◌%◌, ◌^◌, ◌<◌, ◌≤◌, Bool, true, false, cond, not, ◌&&◌, ◌||◌, eqb, ◌⊎◌, [], sym, refl, ap, ◌∙◌, subst, inl, inr, pow-suc, div-one, mul-div_cancel, one-add, arith, pow_mono, shr-shr}
+use Rattle.std.proofs.Common.{◌≡◌, ℕ, zero, suc, ◌-◌, ◌/◌, ◌%◌, ◌^◌, ◌<◌, ◌≤◌, Bool, true, false, cond, not, ◌&&◌, ◌||◌, eqb, ◌⊎◌, sym, refl, ap, ◌∙◌, subst, inl, inr, pow-suc, div-one, mul-div_cancel, one-add, arith, pow_mono, shr-shr}
 use mathlib.Core.Path.{subst⁻¹}
 use native.Mathlib.Nat.{zero-div, div-eq_of_lt}
 use lib.Dec.{eqb-suc-suc}

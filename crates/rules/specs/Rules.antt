@@ -1,5 +1,5 @@
 -- The typing rules of the records.
-use Rattle.std.specs.Prelude.{ℕ, ◌-◌, ◌/◌, ◌%◌, ◌^◌, Bool, true, false, cond, not, ◌&&◌, ◌||◌, List, [], ◌∷◌, length, take, drop, set, Some, None, Option, ◌==◌, bit_and, bit_or, nat_lt, slice_index_or, slice_set}
+use Rattle.std.specs.Prelude.{ℕ, ◌-◌, ◌/◌, ◌%◌, ◌^◌, Bool, true, false, cond, not, ◌&&◌, ◌||◌, List, [], ◌∷◌, length, take, drop, Some, None, Option, ◌==◌, bit_and, bit_or, nat_lt, slice_index_or, slice_set}
 use Rattle.table.specs.declared.types.Kind.{Kind}
 use Rattle.table.specs.declared.types.Kind.TheVariants.{Number, Alias, Owned, Pristine}
 use Rattle.table.specs.declared.types.Mode.{Mode}

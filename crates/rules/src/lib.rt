@@ -1,5 +1,6 @@
 // The rules of a table's records, and the check that they are kept.
 #![tactic(auto)]
+
 mod body;
 mod checking;
 mod effects;
