@@ -1,5 +1,6 @@
 // A memory of objects, by its meaning, and two memories that keep it.
 #![tactic(auto)]
+
 pub mod byte_image;
 pub mod keeping;
 pub mod object;
