@@ -126,9 +126,9 @@ fn bytes_of_an_object(rt: HostRuntime) -> Result<(), Fail> {
     assert!(rt; shown.len() >= 37);
     assert_eq!(rt;
         &shown[0..16],
-        &[3, 0, 0, 0, 0, 0, 0, 0, 10, 0, 0, 0, 0x59, 2, 0, 0]
+        [3u8, 0, 0, 0, 0, 0, 0, 0, 10, 0, 0, 0, 0x59, 2, 0, 0].as_slice()
     );
-    assert_eq!(rt; &shown[16..36], &[0; 20]);
+    assert_eq!(rt; &shown[16..36], [0u8; 20].as_slice());
     assert_eq!(rt; shown[36], 255);
     Ok(())
 }
