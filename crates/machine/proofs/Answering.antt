@@ -1,5 +1,5 @@
 -- What a test that was answered makes of its frame.
-use Rattle.std.proofs.Common.{◌≡◌, ℕ, suc, ◌+◌, Bool, true, false, cond, List, [], ◌∷◌, Some, None, Ok, Err, Option, Result, sym, refl, ap, ◌∙◌, arith}
+use Rattle.std.proofs.Common.{◌≡◌, ℕ, suc, ◌+◌, Bool, true, false, cond, [], ◌∷◌, Some, None, Ok, Err, Option, Result, sym, refl, ap, ◌∙◌}
 use Rattle.table.specs.declared.records.Test.{Test}
 use Rattle.table.specs.Records.{Ask}
 use Rattle.table.specs.Program.{Program}
@@ -12,7 +12,7 @@ use Rattle.machine.specs.declared.tests.Answer.{Answer}
 use Rattle.machine.specs.declared.tests.Answer.TheVariants.{Halts, Yes, No}
 use Rattle.machine.specs.Tests.{Trial, trial}
 use Rattle.machine.specs.Ways.{stopped, go}
-use Rattle.machine.specs.Steps.{Turn, Fails, Does, unless, all_words}
+use Rattle.machine.specs.Steps.{Turn, Does, unless, all_words}
 use Rattle.machine.specs.Trying.{unless_failing, answered, answered_store}
 use Rattle.machine.specs.Alone.{alone, done_of, memory_after}
 use Rattle.machine.proofs.Settling.{looks_only}

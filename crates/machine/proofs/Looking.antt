@@ -1,13 +1,11 @@
 -- What is read where nothing is.
-use Rattle.std.proofs.Common.{◌≡◌, ℕ, zero, suc, ◌<◌, ◌≤◌, Bool, true, false, ltb, List, [], ◌∷◌, length, get_or, Some, None, Ok, Err, Option, sym, refl, ap, ◌∙◌, inl, inr, arith}
+use Rattle.std.proofs.Common.{◌≡◌, ℕ, zero, suc, ◌≤◌, List, [], ◌∷◌, length, get_or, Some, None, Ok, Err, sym, refl, ap, inl, inr, arith}
 use Rattle.std.specs.List.{slice_get}
 use Rattle.std.proofs.lemmas.List.{get_or_past}
 use Rattle.std.proofs.lemmas.Bool.{cases_Bool}
 use Rattle.std.proofs.lemmas.Bool.Decides.{nat_tests}
 use Rattle.table.specs.declared.fault.Fault.{Fault}
-use Rattle.table.specs.declared.fault.Place.TheVariants.{Nothing}
-use Rattle.table.specs.Faults.{fault}
-use Rattle.memory.specs.Model.{Store, object_at, has_object, kind_of, there}
+use Rattle.memory.specs.Model.{Store, object_at, has_object, kind_of}
 
 -- what a look by `nth` finds is what `get_or` gives
 pub found_there : {X : Type 0} (xs : List X) (i : ℕ) (d x : X) → Some x ≡ slice_get xs i → x ≡ get_or xs i d

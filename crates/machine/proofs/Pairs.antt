@@ -1,11 +1,11 @@
 -- Clash answers the first pair of threads that touch one field, or that there is none.
-use Rattle.std.proofs.Common.{◌≡◌, ℕ, zero, suc, ◌+◌, ◌<◌, ◌≤◌, Bool, true, false, cond, ◌&&◌, eqb, ◌⊎◌, List, [], ◌∷◌, get_or, Some, None, Option, sym, refl, ap, ◌∙◌, subst, ap₂, inl, inr, arith}
+use Rattle.std.proofs.Common.{◌≡◌, ℕ, zero, suc, ◌+◌, ◌<◌, ◌≤◌, Bool, true, false, ◌&&◌, eqb, ◌⊎◌, List, [], ◌∷◌, get_or, Some, None, Option, sym, refl, ap, ◌∙◌, subst, ap₂, inl, inr, arith}
 use Rattle.std.proofs.lemmas.Bool.{eqb-true, eq-eqb, and_parts, and_from, cases_Bool, cond-true, cond-false}
 use Rattle.table.specs.Program.{Program}
 use Rattle.memory.specs.Model.{Store}
 use Rattle.machine.specs.declared.clashing.Clash.{Clash}
 use Rattle.machine.specs.World.{Task, no_task}
-use Rattle.machine.specs.Clashes.{touch, meets, partner, or_else, clash_from, clashes, Touches, FirstClash, ClashLaw}
+use Rattle.machine.specs.Clashes.{touch, meets, partner, or_else, clash_from, FirstClash, ClashLaw}
 
 abbrev pair : ℕ → ℕ → ℕ × ℕ → Clash
 pair k l t = record { lower = k; higher = l; object = t.0; field = t.1 }

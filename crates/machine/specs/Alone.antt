@@ -1,11 +1,11 @@
 -- A turn of a thread that has one frame, and what the code answers of it.
-use Rattle.std.specs.Prelude.{ℕ, List, [], ◌∷◌, Some, None, Ok, Err, Option, Result}
+use Rattle.std.specs.Prelude.{ℕ, [], ◌∷◌, Ok, Err, Result}
 use Rattle.table.specs.Records.{Op}
 use Rattle.table.specs.Program.{Program}
 use Rattle.memory.specs.Model.{Store}
 use Rattle.machine.specs.declared.threads.Frame.{Frame}
 use Rattle.machine.specs.declared.frames.Done.{Done}
-use Rattle.machine.specs.Ways.{Change, newest, way}
+use Rattle.machine.specs.Ways.{newest, way}
 use Rattle.machine.specs.Steps.{Turn, Fails, Does, by_way}
 
 -- a record that leads on within its frame does so whatever waits below

@@ -1,12 +1,12 @@
 -- The first pair of running threads that touch one var field of one object.
-use Rattle.std.specs.Prelude.{◌≡◌, ℕ, suc, ◌<◌, ◌≤◌, Bool, true, false, cond, ◌&&◌, ◌⊎◌, List, [], ◌∷◌, Some, None, Option, ◌==◌}
+use Rattle.std.specs.Prelude.{◌≡◌, ℕ, suc, ◌<◌, ◌≤◌, cond, ◌&&◌, ◌⊎◌, List, [], ◌∷◌, Some, None, Option, ◌==◌}
 use Rattle.table.specs.Records.{Op}
 use Rattle.table.specs.Program.{Program}
 use Rattle.memory.specs.Model.{Store}
 use Rattle.machine.specs.declared.threads.Frame.{Frame}
 use Rattle.machine.specs.declared.clashing.Clash.{Clash}
 use Rattle.machine.specs.World.{Task, World, task, is_running}
-use Rattle.machine.specs.Ways.{Way, standing, way}
+use Rattle.machine.specs.Ways.{standing, way}
 
 -- the var field of an object that a thread's next record gets, takes or sets
 abbrev pub touch_by : Program → Store → List Frame → Option Op → Option (ℕ × ℕ)

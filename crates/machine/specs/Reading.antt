@@ -1,5 +1,5 @@
 -- The object that a value refers to: its fields and cells, and what can be judged of them.
-use Rattle.std.specs.Prelude.{ℕ, Bool, true, false, cond, not, ◌&&◌, List, [], length, Some, None, Option, nat_lt, slice_index_or}
+use Rattle.std.specs.Prelude.{ℕ, Bool, true, cond, not, ◌&&◌, List, [], length, Some, None, Option, nat_lt, slice_index_or}
 use Rattle.table.specs.declared.types.Ty.{Ty}
 use Rattle.table.specs.declared.types.Field.{Field}
 use Rattle.table.specs.Types.{is_number, is_var}

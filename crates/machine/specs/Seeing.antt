@@ -1,5 +1,5 @@
 -- The field that a value's object has at a place, if both are there.
-use Rattle.std.specs.Prelude.{◌≡◌, ℕ, min, Bool, true, cond, length, Some, None, Ok, Err, Option, Result, nat_lt}
+use Rattle.std.specs.Prelude.{◌≡◌, ℕ, min, true, cond, length, Some, None, Ok, Err, Option, Result, nat_lt}
 use Rattle.table.specs.declared.types.Field.{Field}
 use Rattle.table.specs.Program.{Program}
 use Rattle.memory.specs.Model.{Store, has_object, has_cell, cell_at}

@@ -1,11 +1,9 @@
 -- A thread's frames and a machine's threads, as steps change them.
 use Rattle.std.specs.Prelude.{ℕ, ◌+◌, ◌-◌, cond, List, [], ◌∷◌, ◌++◌, map, length, take, Some, None, Option, nat_lt, slice_index_or, slice_set}
 use Rattle.machine.specs.declared.threads.Frame.{Frame}
-use Rattle.machine.specs.declared.threads.Status.{Status}
-use Rattle.machine.specs.declared.threads.Status.TheVariants.{Ended}
 use Rattle.machine.specs.declared.threads.Thread.{Thread}
 use Rattle.machine.specs.declared.threads.Machine.{Machine}
-use Rattle.machine.specs.World.{Task, task_of, no_frame, begun}
+use Rattle.machine.specs.World.{Task, task_of, no_frame}
 
 -- the frames in use, and the threads that are there
 abbrev pub frames_of : Thread → List Frame

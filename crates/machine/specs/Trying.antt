@@ -1,5 +1,5 @@
 -- What the code answers of a test.
-use Rattle.std.specs.Prelude.{ℕ, Bool, true, false, cond, [], ◌∷◌, Some, None, Ok, Err, Option, Result}
+use Rattle.std.specs.Prelude.{ℕ, Bool, cond, [], ◌∷◌, Some, None, Ok, Err, Option, Result}
 use Rattle.rules.specs.Rules.{first}
 use Rattle.memory.specs.Model.{Store, matching, cell_at, with_cell}
 use Rattle.machine.specs.declared.threads.Frame.{Frame}

@@ -1,5 +1,5 @@
 -- The records: what each asks of its thread and of the memory, whether it halts, what may be full, and what it changes.
-use Rattle.std.specs.Prelude.{ℕ, zero, suc, ◌+◌, ◌-◌, ◌%◌, ◌^◌, Bool, true, false, cond, ◌&&◌, List, [], ◌∷◌, ◌++◌, length, take, set, Some, None, Option, nat_lt, slice_index_or, slice_set}
+use Rattle.std.specs.Prelude.{ℕ, zero, suc, ◌+◌, ◌-◌, ◌%◌, ◌^◌, Bool, true, false, cond, ◌&&◌, List, [], ◌∷◌, ◌++◌, length, take, Some, None, Option, nat_lt, slice_index_or, slice_set}
 use Rattle.table.specs.declared.types.Ty.{Ty}
 use Rattle.table.specs.Records.{Op, New, Null, Int, Share, Own, Get, Take, Set, Add, Call, Fork, Return, Again, Join, Emit, Ask}
 use Rattle.table.specs.Program.{Program}
@@ -13,7 +13,7 @@ use Rattle.machine.specs.declared.threads.Status.TheVariants.{Running, Ended}
 use Rattle.machine.specs.Values.{is_null, holds_number, is_reference, word_of, value_of, suits, left, at, given, all_given, all_suit, leaving, passing}
 use Rattle.machine.specs.World.{no_frame, op_at}
 use Rattle.machine.specs.Reading.{field_type, cell, write, slot_has_object, has_field, where_field, touched}
-use Rattle.machine.specs.Tests.{Trial, trial}
+use Rattle.machine.specs.Tests.{trial}
 
 -- what a step does to its thread: the status and the frames that it leaves, the memory, and the first frame of a new thread
 pub record Change : Type 0 where

@@ -1,5 +1,5 @@
 -- Threads, and a machine with its memory: as lists, and as the code's structs give them.
-use Rattle.std.specs.Prelude.{ℕ, Bool, true, false, cond, ◌&&◌, List, [], ◌∷◌, map, length, take, replicate, Some, None, Ok, Err, Option, Result, ◌==◌, nat_lt, slice_index_or}
+use Rattle.std.specs.Prelude.{ℕ, Bool, true, false, cond, ◌&&◌, List, [], ◌∷◌, map, length, take, replicate, None, Ok, Option, Result, ◌==◌, nat_lt, slice_index_or}
 use Rattle.table.specs.declared.fault.Fault.{Fault}
 use Rattle.table.specs.declared.fault.Place.TheVariants.{Nothing}
 use Rattle.table.specs.Faults.{need, ◌>>=◌}

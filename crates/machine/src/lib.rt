@@ -1,5 +1,6 @@
 // A machine that runs a table: threads of frames over a memory of objects.
 #![tactic(auto)]
+
 ghost use Rattle.machine.specs.Clashes.{ClashLaw};
 
 mod asking;

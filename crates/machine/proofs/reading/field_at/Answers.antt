@@ -1,4 +1,4 @@
-use Rattle.std.proofs.Common.{[], get_or, ap, ◌∙◌}
+use Rattle.std.proofs.Common.{get_or, ap, ◌∙◌}
 use Rattle.table.specs.Reading.{program_of, fields_of}
 use Rattle.rules.specs.Rules.{no_field}
 use Rattle.machine.proofs.Looking.{found_there, found_none}

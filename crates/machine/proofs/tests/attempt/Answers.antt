@@ -1,4 +1,4 @@
-use Rattle.std.proofs.Common.{◌≡◌, true, false, ◌&&◌, refl, rules}
+use Rattle.std.proofs.Common.{◌≡◌, true, ◌&&◌, rules}
 use Rattle.table.specs.Reading.{program_of}
 use Rattle.machine.specs.Values.{at, given, is_reference, word_of}
 use Rattle.machine.specs.Reading.{refers, cell}

@@ -1,9 +1,8 @@
-use Rattle.std.proofs.Common.{◌≡◌, true, false, ◌&&◌, refl, rules}
+use Rattle.std.proofs.Common.{◌≡◌, true, ◌&&◌, refl, rules}
 use Rattle.table.specs.Reading.{program_of}
 use Rattle.machine.specs.Values.{at, given, is_reference, word_of}
-use Rattle.machine.specs.Reading.{refers, cell}
-use Rattle.machine.specs.Tests.{spent_into}
-use Rattle.machine.proofs.Settling.{resolved_as, test_settles, word_of_slot, left_of_slot, word_read}
+use Rattle.machine.specs.Reading.{refers}
+use Rattle.machine.proofs.Settling.{resolved_as, test_settles, word_of_slot}
 use Rattle.machine.proofs.tests.fix.Goals as goal
 
 pub returns : goal.returns

@@ -1,10 +1,10 @@
-use Rattle.std.proofs.Common.{◌≡◌, true, false, ◌&&◌, refl, arith, rules}
+use Rattle.std.proofs.Common.{◌≡◌, true, false, ◌&&◌, arith, rules}
 use Rattle.std.proofs.lemmas.Bool.Decides.{nat_tests}
 use Rattle.table.specs.Reading.{program_of}
 use Rattle.machine.specs.Values.{at, given, is_reference, word_of}
-use Rattle.machine.specs.Reading.{refers, cell}
+use Rattle.machine.specs.Reading.{refers}
 use Rattle.machine.specs.Tests.{spent_into}
-use Rattle.machine.proofs.Settling.{resolved_as, halts_as, field_halts, test_settles, word_of_slot, left_of_slot, word_read}
+use Rattle.machine.proofs.Settling.{resolved_as, halts_as, field_halts, test_settles, word_of_slot, left_of_slot}
 use Rattle.machine.proofs.tests.swap.Goals as goal
 
 pub returns-in_default : goal.returns-in_default

@@ -1,12 +1,12 @@
-use Rattle.std.proofs.Common.{◌≡◌, Bool, true, false, ◌&&◌, ◌||◌, Some, None, Ok, Err, sym, refl, ap, ◌∙◌, arith, rules}
+use Rattle.std.proofs.Common.{◌≡◌, true, false, ◌&&◌, ◌||◌, Some, None, Ok, Err, sym, refl, ap, ◌∙◌, arith, rules}
 use Rattle.std.proofs.lemmas.Result.{err_from_is_err_and}
 use Rattle.std.proofs.lemmas.Bool.Decides.{nat_tests}
 use Rattle.table.specs.Reading.{program_of}
 use Rattle.machine.specs.Values.{at, given, is_reference, is_null, word_of}
 use Rattle.machine.specs.Reading.{refers, cell}
-use Rattle.machine.specs.Tests.{spent_into, fields_ask}
-use Rattle.machine.proofs.Settling.{word_of_slot, left_of_slot, word_read}
-use Rattle.machine.proofs.Pairing.{pair_fails, pair_goes, pair_halts, pair_there, exchange_fails, exchange_halts, exchange_settles, exchange_51, first_word_fails, second_word_fails, paired_as, none_null}
+use Rattle.machine.specs.Tests.{fields_ask}
+use Rattle.machine.proofs.Settling.{word_of_slot, word_read}
+use Rattle.machine.proofs.Pairing.{pair_fails, pair_goes, pair_halts, pair_there, exchange_fails, exchange_halts, exchange_settles, exchange_51, first_word_fails, paired_as, none_null}
 use Rattle.machine.proofs.tests.unlink.Goals as goal
 
 pub returns-in_err-pair : goal.returns-in_err-pair
