@@ -156,11 +156,11 @@ module _ (p : Program) (m : Store) (fs : List Frame) (hf : SmallFrames fs) (hm :
   yes_small (Stable x f) = goes _ vs m here hm
 
   -- a test is refused from 71 on, and asks the memory with small words
-  is_word : (n : ℕ) → n < 2 ^ 31 → is_word n ≡ true
-  is_word n h = lt-ltb n (2 ^ 31) h
+  fits_word : (n : ℕ) → n < 2 ^ 31 → is_word n ≡ true
+  fits_word n h = lt-ltb n (2 ^ 31) h
 
   two_words : (a b : ℕ) → a < 2 ^ 31 → b < 2 ^ 31 → all_words (a ∷ b ∷ []) ≡ true
-  two_words a b h k = and_from _ _ (is_word a h) (and_from _ _ (is_word b k) refl)
+  two_words a b h k = and_from _ _ (fits_word a h) (and_from _ _ (fits_word b k) refl)
 
   test_asks : (t : Test) → (above (trial p m vs t).asks ≡ true) × (all_words (trial p m vs t).words ≡ true)
   test_asks (Nil x) = (refl, refl)
@@ -201,7 +201,7 @@ module _ (p : Program) (m : Store) (fs : List Frame) (hf : SmallFrames fs) (hm :
   does_small (Take z x f) threads room l = (refl, goes _ _ _ (set_slots vs z _ here (got_at x f)) (stored_small m _ f 0 false hm (omega arith)))
   does_small (Set z x f y) threads room l = (
     refl,
-    asked (all_words (word_of (value p m fs y) ∷ [])) _ (and_from _ _ (is_word _ (here y)) refl)
+    asked (all_words (word_of (value p m fs y) ∷ [])) _ (and_from _ _ (fits_word _ (here y)) refl)
         (goes _ _ _ (set_slots _ z _ (set_slots _ x V.Null (set_slots vs y _ here (left_at x f y)) (omega arith)) (here x)) (stored_small m _ f _ false hm (here y))),
   )
   does_small (Add z x y) threads room l = (refl, goes _ _ m (set_slots vs z (V.Number ((word_of (value p m fs x) + word_of (value p m fs y)) % 2 ^ 31)) here (mod-lt (word_of (value p m fs x) + word_of (value p m fs y)) (omega arith))) hm)
