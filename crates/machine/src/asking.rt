@@ -34,7 +34,7 @@ fn answer<M: Memory>(table: &Table, memory: &mut M, frame: Frame, test: Test) ->
 }
 
 // Halts, goes on with what a yes leaves, or goes past the yes block.
-pub(crate) fn ask<M: Memory>(
+pub fn ask<M: Memory>(
     table: &Table,
     memory: &mut M,
     frame: Frame,

@@ -13,7 +13,7 @@ use super::threads::{Frame, Slot};
 use memory::keeping::Memory;
 use table::Table;
 
-pub(crate) fn get<M: Memory>(
+pub fn get<M: Memory>(
     table: &Table,
     memory: &M,
     frame: Frame,
@@ -34,7 +34,7 @@ pub(crate) fn get<M: Memory>(
 }
 
 // Leaves 0 in the cell.
-pub(crate) fn take<M: Memory>(
+pub fn take<M: Memory>(
     table: &Table,
     memory: &mut M,
     frame: Frame,
@@ -59,7 +59,7 @@ pub(crate) fn take<M: Memory>(
 }
 
 // Writes y's value, unmarked; what goes to an owned or pristine field leaves y null.
-pub(crate) fn set<M: Memory>(
+pub fn set<M: Memory>(
     table: &Table,
     memory: &mut M,
     frame: Frame,

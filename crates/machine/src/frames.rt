@@ -15,7 +15,7 @@ pub struct Done {
 }
 
 // Goes on where a condition holds, and is refused with a number where it does not.
-pub(crate) fn require(holds: bool, number: u8) -> Result<(), u8>
+pub fn require(holds: bool, number: u8) -> Result<(), u8>
     ensures { result ≡ required holds number }
 {
     if holds { Ok(()) } else { Err(number) }
@@ -23,7 +23,7 @@ pub(crate) fn require(holds: bool, number: u8) -> Result<(), u8>
 
 impl Frame {
     // What a slot holds; there are 16.
-    pub(crate) fn at(&self, x: u8) -> Slot
+    pub fn at(&self, x: u8) -> Slot
         ensures { result ≡ at self.now.slots x }
     {
         let slots: &[Slot] = &self.slots;
@@ -36,24 +36,27 @@ impl Frame {
     }
 
     // Whether a slot is an operand: one of the 16, and not empty.
-    pub(crate) fn gives(&self, x: u8) -> bool
+    pub fn gives(&self, x: u8) -> bool
         ensures { result ≡ given self.now.slots x }
     {
         x < 16 && !self.at(x).is_empty()
     }
 
-    // The same frame with a slot written.
-    pub(crate) fn with(self, x: u8, value: Slot) -> Frame
-        requires { x < 16 }
+    // The same frame with a slot written; there is nothing to write past the slots.
+    pub fn with(self, x: u8, value: Slot) -> Frame
         ensures { result ≡ record { function = self.function; index = self.index; slots = slice_set self.slots x value } }
     {
         let mut frame = self;
-        frame.slots[x as usize] = value;
+        let slots: &mut [Slot] = &mut frame.slots;
+        let i = x as usize;
+        if i < slots.len() {
+            slots[i] = value;
+        }
         frame
     }
 
     // Goes to a record, and its thread runs on.
-    pub(crate) fn goes(self, index: usize) -> Done
+    pub fn goes(self, index: usize) -> Done
         ensures { result ≡ record { status = Running; frame = record { function = self.function; index = index; slots = self.slots }; out = None } }
     {
         let mut frame = self;
@@ -66,7 +69,7 @@ impl Frame {
     }
 
     // Stays where it is, and its thread halts.
-    pub(crate) fn halts(self) -> Done
+    pub fn halts(self) -> Done
         ensures { result ≡ record { status = Halted; frame = self; out = None } }
     {
         Done {

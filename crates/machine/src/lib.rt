@@ -3,17 +3,17 @@
 
 ghost use Rattle.machine.specs.Clashes.{ClashLaw};
 
-mod asking;
+pub mod asking;
 pub mod clashing;
-mod fields;
-mod frames;
-mod plain;
-mod reading;
+pub mod fields;
+pub mod frames;
+pub mod plain;
+pub mod reading;
 pub mod stacks;
 mod tests;
 pub mod threads;
 pub mod used;
-mod values;
+pub mod values;
 
 // Clash answers the first pair of threads that touch one var field of one object, and none exactly when there is none.
 pub fn clash_names_the_first_pair() -> u8

@@ -13,14 +13,14 @@ use memory::keeping::Memory;
 use table::Table;
 
 // Binds a slot and goes to the next record.
-pub(crate) fn bind(frame: Frame, z: u8, value: Slot) -> Done
+pub fn bind(frame: Frame, z: u8, value: Slot) -> Done
     requires { (z < 16) × (frame.index < 2 ^ 32) }
     ensures { result ≡ record { status = Running; frame = record { function = frame.function; index = suc frame.index; slots = slice_set frame.slots z value }; out = None } }
 {
     frame.with(z, value).goes(frame.index + 1)
 }
 
-pub(crate) fn null(table: &Table, frame: Frame, z: u8, s: u8) -> Result<Done, u8>
+pub fn null(table: &Table, frame: Frame, z: u8, s: u8) -> Result<Done, u8>
     requires { frame.index < 2 ^ 32 }
     ensures { (m : Store) (room : ℕ) → result ≡ done_of (alone (program_of table.now) m frame room (Null z s)) }
 {
@@ -29,7 +29,7 @@ pub(crate) fn null(table: &Table, frame: Frame, z: u8, s: u8) -> Result<Done, u8
     Ok(bind(frame, z, Slot::Null))
 }
 
-pub(crate) fn int(frame: Frame, z: u8, number: u32) -> Result<Done, u8>
+pub fn int(frame: Frame, z: u8, number: u32) -> Result<Done, u8>
     requires { frame.index < 2 ^ 32 }
     ensures { (p : Program) (m : Store) (room : ℕ) → result ≡ done_of (alone p m frame room (Int z number)) }
 {
@@ -37,7 +37,7 @@ pub(crate) fn int(frame: Frame, z: u8, number: u32) -> Result<Done, u8>
     Ok(bind(frame, z, Slot::Number(number)))
 }
 
-pub(crate) fn share(frame: Frame, z: u8, x: u8) -> Result<Done, u8>
+pub fn share(frame: Frame, z: u8, x: u8) -> Result<Done, u8>
     requires { frame.index < 2 ^ 32 }
     ensures { (p : Program) (m : Store) (room : ℕ) → result ≡ done_of (alone p m frame room (Share z x)) }
 {
@@ -45,7 +45,7 @@ pub(crate) fn share(frame: Frame, z: u8, x: u8) -> Result<Done, u8>
     Ok(bind(frame, z, frame.at(x)))
 }
 
-pub(crate) fn own(frame: Frame, z: u8, x: u8) -> Result<Done, u8>
+pub fn own(frame: Frame, z: u8, x: u8) -> Result<Done, u8>
     requires { frame.index < 2 ^ 32 }
     ensures { (p : Program) (m : Store) (room : ℕ) → result ≡ done_of (alone p m frame room (Own z x)) }
 {
@@ -55,7 +55,7 @@ pub(crate) fn own(frame: Frame, z: u8, x: u8) -> Result<Done, u8>
     Ok(bind(frame.with(x, Slot::Null), z, value))
 }
 
-pub(crate) fn add(frame: Frame, z: u8, x: u8, y: u8) -> Result<Done, u8>
+pub fn add(frame: Frame, z: u8, x: u8, y: u8) -> Result<Done, u8>
     requires { frame.index < 2 ^ 32 }
     ensures { (p : Program) (m : Store) (room : ℕ) → result ≡ done_of (alone p m frame room (Add z x y)) }
 {
@@ -66,14 +66,14 @@ pub(crate) fn add(frame: Frame, z: u8, x: u8, y: u8) -> Result<Done, u8>
     Ok(bind(frame, z, Slot::Number(sum as u32)))
 }
 
-pub(crate) fn join(frame: Frame, number: u32) -> Done
+pub fn join(frame: Frame, number: u32) -> Done
     requires { frame.index < 2 ^ 32 }
     ensures { (p : Program) (m : Store) (room : ℕ) → Ok result ≡ done_of (alone p m frame room (Join number)) }
 {
     frame.goes(frame.index + 1 + number as usize)
 }
 
-pub(crate) fn emit(frame: Frame, x: u8, room: usize) -> Result<Done, u8>
+pub fn emit(frame: Frame, x: u8, room: usize) -> Result<Done, u8>
     requires { frame.index < 2 ^ 32 }
     ensures { (p : Program) (m : Store) → result ≡ done_of (alone p m frame room (Emit x)) }
 {
@@ -87,7 +87,7 @@ pub(crate) fn emit(frame: Frame, x: u8, room: usize) -> Result<Done, u8>
     Ok(done)
 }
 
-pub(crate) fn new<M: Memory>(
+pub fn new<M: Memory>(
     table: &Table,
     memory: &mut M,
     frame: Frame,

@@ -96,7 +96,7 @@ pub(crate) fn has_field<M: Memory>(table: &Table, memory: &M, value: Slot, f: u8
 }
 
 // The field of the object that a value refers to, if both are there.
-pub(crate) fn see<M: Memory>(table: &Table, memory: &M, value: Slot, f: u8) -> Option<Field>
+pub fn see<M: Memory>(table: &Table, memory: &M, value: Slot, f: u8) -> Option<Field>
     ensures value { result ≡ seen (program_of table.now) (M.Memory.model memory.now) value f }
 {
     let Slot::Reference(object) = value else {
@@ -112,7 +112,7 @@ pub(crate) fn see<M: Memory>(table: &Table, memory: &M, value: Slot, f: u8) -> O
 }
 
 // Whether the field is a reference, where that can be judged.
-pub(crate) fn refers<M: Memory>(table: &Table, memory: &M, value: Slot, f: u8) -> bool
+pub fn refers<M: Memory>(table: &Table, memory: &M, value: Slot, f: u8) -> bool
     ensures { result ≡ refers (program_of table.now) (M.Memory.model memory.now) value f }
 {
     match see(table, memory, value, f) {
@@ -122,7 +122,7 @@ pub(crate) fn refers<M: Memory>(table: &Table, memory: &M, value: Slot, f: u8) -
 }
 
 // What a value refers to, at a field: 73 and 74; none for what refers to nothing.
-pub(crate) fn resolve<M: Memory>(
+pub fn resolve<M: Memory>(
     table: &Table,
     memory: &M,
     value: Slot,
@@ -157,7 +157,7 @@ pub struct Pair {
 }
 
 // Both targets: 73 of either comes before 74.
-pub(crate) fn resolve_both<M: Memory>(
+pub fn resolve_both<M: Memory>(
     table: &Table,
     memory: &M,
     a: Slot,

@@ -8,33 +8,33 @@ use memory::keeping::WORD_END;
 use table::types::Ty;
 
 impl Slot {
-    pub(crate) fn is_empty(self) -> bool
+    pub fn is_empty(self) -> bool
         ensures { result ≡ is_empty self }
     {
         matches!(self, Slot::Empty)
     }
 
-    pub(crate) fn is_null(self) -> bool
+    pub fn is_null(self) -> bool
         ensures { result ≡ is_null self }
     {
         matches!(self, Slot::Null)
     }
 
-    pub(crate) fn holds_number(self) -> bool
+    pub fn holds_number(self) -> bool
         ensures { result ≡ holds_number self }
     {
         matches!(self, Slot::Number(_))
     }
 
     // Null counts as a reference.
-    pub(crate) fn is_reference(self) -> bool
+    pub fn is_reference(self) -> bool
         ensures { result ≡ is_reference self }
     {
         matches!(self, Slot::Null | Slot::Reference(_))
     }
 
     // The word of a value in a cell, where 0 is null and o + 1 is object o.
-    pub(crate) fn word(self) -> u64
+    pub fn word(self) -> u64
         ensures { result ≡ word_of self }
     {
         match self {
@@ -45,7 +45,7 @@ impl Slot {
     }
 
     // The same, where a cell can hold it; 51 where it cannot.
-    pub(crate) fn cell_word(self) -> Result<u32, u8>
+    pub fn cell_word(self) -> Result<u32, u8>
         ensures { result ≡ (if is_word (word_of self) then Ok (word_of self) else Err 51) }
     {
         let word = self.word();
@@ -57,7 +57,7 @@ impl Slot {
     }
 
     // What a cell of a type holds.
-    pub(crate) fn of_cell(ty: Ty, word: u32) -> Slot
+    pub fn of_cell(ty: Ty, word: u32) -> Slot
         ensures { result ≡ value_of ty word }
     {
         if ty.kind.is_number() {
@@ -70,7 +70,7 @@ impl Slot {
     }
 
     // A number for a number, and a reference for a reference.
-    pub(crate) fn suits(self, ty: Ty) -> bool
+    pub fn suits(self, ty: Ty) -> bool
         ensures { result ≡ suits ty self }
     {
         if ty.kind.is_number() {
@@ -81,7 +81,7 @@ impl Slot {
     }
 
     // What is left in a slot whose value goes to a place of a type.
-    pub(crate) fn left(self, ty: Ty) -> Slot
+    pub fn left(self, ty: Ty) -> Slot
         ensures { result ≡ left ty self }
     {
         if ty.kind.is_owned() || ty.kind.is_pristine() {

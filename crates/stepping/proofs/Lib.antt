@@ -1,4 +1,3 @@
-pub mod Answering
 pub mod Records
 pub mod Arguments
 pub mod Turned

@@ -16,7 +16,7 @@ use Rattle.machine.specs.Tests.{trial}
 use Rattle.machine.specs.Steps.{Turn, Fails, Does, unless, by_way, room_for}
 use Rattle.stepping.specs.declared.turning.Outcome.{Outcome}
 use Rattle.stepping.specs.declared.turning.Outcome.TheVariants.{Goes, Calls, Forks, Resumes, Ends}
-use Rattle.stepping.specs.Alone.{alone, done_of, memory_after}
+use Rattle.machine.specs.Alone.{alone, done_of, memory_after}
 use Rattle.stepping.specs.Calling.{granted, handed, forking, handing, ending, resuming, resumed, returning}
 use Rattle.stepping.proofs.Turned.{leaves_memory}
 use Rattle.stepping.specs.Turns.{going, calling, forked, leading, acted, made}

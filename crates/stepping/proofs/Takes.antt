@@ -13,7 +13,7 @@ use Rattle.machine.specs.Steps.{Turn, Fails, Does, unless, room_for, by_way, tak
 use Rattle.machine.specs.Stacks.{below}
 use Rattle.stepping.specs.declared.calls.Passed.{Passed}
 use Rattle.stepping.specs.declared.turning.Outcome.{Outcome}
-use Rattle.stepping.specs.Alone.{alone, done_of, memory_after}
+use Rattle.machine.specs.Alone.{alone, done_of, memory_after}
 use Rattle.stepping.specs.Calling.{granted, handing, handed, forking, returning}
 use Rattle.stepping.specs.Turns.{going, calling, forked, leading, acted, made, Listed, FitsIn}
 use Rattle.stepping.proofs.Turned.{leaves_memory}

@@ -11,7 +11,7 @@ use Rattle.machine.specs.Ways.{Change, Way, stopped, way}
 use Rattle.machine.specs.Steps.{Turn, Fails, Does, unless, by_way, room_for}
 use Rattle.stepping.specs.declared.turning.Outcome.{Outcome}
 use Rattle.stepping.specs.declared.turning.Turning.{Turning}
-use Rattle.stepping.specs.Alone.{alone, done_of, memory_after}
+use Rattle.machine.specs.Alone.{alone, done_of, memory_after}
 use Rattle.stepping.specs.Turns.{going, within, acted}
 
 -- a record that leaves the memory as it was, whatever comes of it

@@ -1,4 +1,3 @@
-pub mod Alone
 pub mod Calling
 pub mod Turns
 pub mod Committing

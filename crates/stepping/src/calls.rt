@@ -7,7 +7,7 @@ ghost use Rattle.table.specs.Records.{Again};
 ghost use Rattle.memory.specs.Model.{Store};
 ghost use Rattle.machine.specs.World.{op_at};
 ghost use Rattle.machine.specs.Ways.{call_of};
-ghost use Rattle.stepping.specs.Alone.{alone, done_of};
+ghost use Rattle.machine.specs.Alone.{alone, done_of};
 ghost use Rattle.stepping.specs.Calling.{granted, handed, handing, forking, returning, NearSlot};
 
 use super::standing::{op_at, param, result};

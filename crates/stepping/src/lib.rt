@@ -1,11 +1,8 @@
 // Steps of a table's threads over any memory.
 #![tactic(auto)]
-mod asking;
 mod calls;
 mod clashing;
 mod committing;
-mod fields;
-mod plain;
 mod standing;
 mod starting;
 mod steps;

@@ -2,16 +2,17 @@
 ghost use Rattle.std.specs.Prelude.{◌≡◌, ℕ, ◌^◌, ◌<◌, length, Err};
 ghost use Rattle.table.specs.Records.{meant};
 ghost use Rattle.table.specs.Reading.{program_of};
-ghost use Rattle.stepping.specs.Alone.{alone, memory_after};
+ghost use Rattle.machine.specs.Alone.{alone, memory_after};
 ghost use Rattle.machine.specs.Stacks.{frames_of};
 ghost use Rattle.machine.specs.Ways.{standing};
 ghost use Rattle.machine.specs.Steps.{taking};
 ghost use Rattle.stepping.specs.Turns.{going, calling, forked, leading, acted, made, FitsIn};
 
-use super::asking::ask;
+use machine::asking::ask;
 use super::calls::Passed;
 use super::standing::op_at;
-use super::{calls, fields, plain};
+use super::calls;
+use machine::{fields, plain};
 use machine::frames::Done;
 use machine::threads::{Frame, Thread};
 use memory::keeping::Memory;
