@@ -7,7 +7,7 @@ ghost use Rattle.machine.specs.World.{task_of, in_table};
 ghost use Rattle.safety.specs.Owners.{owns, slots_owning, frames_owning, tasks_owning, types_before, all_in_table, frames_known};
 
 use machine::threads::{Frame, Slot, Thread};
-use scoping::scope_before;
+use rules::scope_at;
 use table::Table;
 use table::types::Ty;
 
@@ -43,7 +43,7 @@ fn types_of(table: &Table, frame: &Frame, scratch: &mut [Ty]) -> usize
     ensures types { take result scratch.new ≡ types_before (program_of table.now) frame.now.function frame.now.index }
     ensures room { result ≤ length scratch.old }
 {
-    match scope_before(table, frame.function as usize, frame.index, scratch) {
+    match scope_at(table, frame.function as usize, frame.index, scratch) {
         Ok(depth) => depth,
         Err(_) => 0,
     }

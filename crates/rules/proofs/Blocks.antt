@@ -1,5 +1,5 @@
 -- Blocks are nested, and each ends where its test says.
-use Rattle.std.proofs.Common.{◌≡◌, ℕ, zero, suc, ◌+◌, ◌-◌, ◌<◌, ◌≤◌, true, false, not, ◌&&◌, eqb, ltb, ◌⊎◌, List, [], ◌∷◌, ◌++◌, length, Some, refl, ap, ◌∙◌, subst, inl, inr, add-zero, add-suc, arith}
+use Rattle.std.proofs.Common.{◌≡◌, ℕ, zero, suc, ◌+◌, ◌-◌, ◌<◌, ◌≤◌, true, false, not, ◌&&◌, eqb, ltb, ◌⊎◌, List, [], ◌∷◌, ◌++◌, length, Some, None, refl, ap, ◌∙◌, subst, inl, inr, add-zero, add-suc, arith}
 use mathlib.Core.Path.{subst⁻¹}
 use Rattle.std.proofs.lemmas.Bool.{ltb-true, leb-true, eqb-true, eqb-false, eq-eqb, ne_eqb, cases_lt, cases_eq, and_parts, not-true, cond-true, cond-false}
 use Rattle.table.specs.declared.types.Ty.{Ty}
@@ -7,7 +7,7 @@ use Rattle.table.specs.declared.records.Test.{Test}
 use Rattle.table.specs.Records.{Ask, Join}
 use Rattle.table.specs.Program.{Function, Program}
 use Rattle.rules.specs.Rules.{record_at, yes_types}
-use Rattle.rules.specs.Scopes.{Block, Yes, No, State, state, end, reach, end_of, in_yes, close, Shape, Plain, Last, Joins, Asks, shape, inside, placed, move, after, before}
+use Rattle.rules.specs.Scopes.{Block, Yes, No, State, state, end, reach, end_of, in_yes, close, Shape, Plain, Last, Joins, Asks, shape, inside, placed, move, refusal, before}
 use Rattle.rules.specs.Blocks.{Accepted, Tests, Nested, Still, Ended, TwoBlocks, Joined, BlocksStand, JoinsStand}
 use Rattle.rules.proofs.Steps.{good, after_good, before_suc}
 
@@ -103,15 +103,19 @@ moved size i base S ts us (Asks t a b) w h =
       low = omega arith;
     })
 
+pub stepped_at : (p : Program) (fn : Function) (base : List Block) (i : ℕ) → i < length fn.records → refusal p fn i (before p fn i) (record_at fn i) ≡ None
+    → Still (length fn.records) base i (before p fn i) → Way (length fn.records) base (suc i) (before p fn (suc i))
+stepped_at p fn base i l ok w =
+    let g = good p fn i (before p fn i) (record_at fn i) ok in
+    subst⁻¹ (Way (length fn.records) base (suc i)) (before_suc p fn i l ∙ after_good p fn i (before p fn i) (record_at fn i) g)
+    (moved (length fn.records) i base (before p fn i) _ _ (shape g.op) w g.place)
+
 module _ (p : Program) (fn : Function) (ok : Accepted p fn) where
   abbrev size : ℕ
   size = length fn.records
 
   pub stepped : (base : List Block) (i : ℕ) → i < size → Still size base i (before p fn i) → Way size base (suc i) (before p fn (suc i))
-  stepped base i l w =
-      let g = good p fn i (before p fn i) (record_at fn i) (ok i l) in
-      subst⁻¹ (Way size base (suc i)) (before_suc p fn i l ∙ after_good p fn i (before p fn i) (record_at fn i) g)
-      (moved size i base (before p fn i) _ _ (shape g.op) w g.place)
+  stepped base i l w = stepped_at p fn base i l (ok i l) w
 
   -- a block stays open up to its end
   pub base_low : (base : List Block) (i : ℕ) (S : State) → Still size base i S → (i < end_of size base) × (i < size)

@@ -18,7 +18,7 @@ use Rattle.rules.specs.declared.parts.Sort.{Sort}
 use Rattle.rules.specs.declared.parts.Sort.TheVariants.{InYes, InNo}
 use Rattle.table.specs.Types.{is_pristine, is_var, is_once, is_spec}
 use Rattle.rules.specs.Rules.{Premise, first, premises, asks, bound, yes_types, slot, slot_kind, in_scope, has_field, there, field_mode}
-use Rattle.rules.specs.Scopes.{Asks, shape, grown, settled}
+use Rattle.rules.specs.Scopes.{Shape, Plain, Last, Joins, Asks, shape, grown, settled}
 use Rattle.rules.specs.Scan.{Scanner, is_no, fitting, judge, judged_of, test_by, follow, follow_of, scan}
 use Rattle.rules.specs.Scoped.{Low, Changes}
 use Rattle.rules.specs.Parts.{span}
@@ -30,10 +30,10 @@ pub spent : (n f : ℕ) → n < f → (g : ℕ) × (f ≡ suc g) × (n ≤ g)
 spent n zero h = absurd (omega arith)
 spent n (suc g) h = (g, refl, omega arith)
 
--- what is left where there is no number
-pub none_left : (o : Option ℕ) → ((n : ℕ) → o ≡ Some n → ⊥) → o ≡ None
+-- what is left where there is nothing
+pub none_left : {X : Type 0} (o : Option X) → ((x : X) → o ≡ Some x → ⊥) → o ≡ None
 none_left None h = refl
-none_left (Some n) h = absurd (h n refl)
+none_left (Some x) h = absurd (h x refl)
 
 -- the records from place i up to j
 module _ (rs : List (Option Op)) where
@@ -182,6 +182,25 @@ accepted_fits levels left q t a b h = elim (is_no q) as (λ n. (not (eqb a 0) &&
   | false ↦ λ k. (grind (arith, nat_tests), grind (arith, nat_tests))
 ] h
 
+-- a record that is no test, by its shape
+pub no_test : (P : Shape → Type 0) → P Plain → P Last → ((n : ℕ) → P (Joins n)) → (r : declared.Record) → ((t : Test) (a b : ℕ) → r ≡ coded.Ask t a b → ⊥) → P (shape (meant r))
+no_test P plain last joins (coded.New z s) n = plain
+no_test P plain last joins (coded.Null z s) n = plain
+no_test P plain last joins (coded.Int z x) n = plain
+no_test P plain last joins (coded.Share z x) n = plain
+no_test P plain last joins (coded.Own z x) n = plain
+no_test P plain last joins (coded.Get z x f) n = plain
+no_test P plain last joins (coded.Take z x f) n = plain
+no_test P plain last joins (coded.Set z x f y) n = plain
+no_test P plain last joins (coded.Add z x y) n = plain
+no_test P plain last joins (coded.Call z x args) n = plain
+no_test P plain last joins (coded.Fork x args) n = plain
+no_test P plain last joins (coded.Return x) n = last
+no_test P plain last joins (coded.Again args) n = last
+no_test P plain last joins (coded.Join x) n = joins x
+no_test P plain last joins (coded.Emit x) n = plain
+no_test P plain last joins (coded.Ask t a b) n = absurd (n t a b refl)
+
 module _ (p : Program) (fn : Function) (k : ℕ) where
   abbrev judged : ℕ → ℕ → Sort → List Ty → ℕ → Option Op → Result Op Fault
   judged levels left q ts i o = judged_of p fn k levels left q ts i o
@@ -256,22 +275,9 @@ module _ (p : Program) (fn : Function) (k : ℕ) where
 
   pub follow_on : (go : Scanner) (levels i m : ℕ) (ts zs : List Ty) (q : Sort) (r : declared.Record) (rest : List (Option Op)) → m ≡ suc i → ((t : Test) (a b : ℕ) → r ≡ coded.Ask t a b → ⊥)
       → go levels m zs q rest ≡ follow p fn k go levels i ts zs q (shape (meant r)) rest
-  follow_on go levels i m ts zs q (coded.New z s) rest e n = rw e refl
-  follow_on go levels i m ts zs q (coded.Null z s) rest e n = rw e refl
-  follow_on go levels i m ts zs q (coded.Int z x) rest e n = rw e refl
-  follow_on go levels i m ts zs q (coded.Share z x) rest e n = rw e refl
-  follow_on go levels i m ts zs q (coded.Own z x) rest e n = rw e refl
-  follow_on go levels i m ts zs q (coded.Get z x f) rest e n = rw e refl
-  follow_on go levels i m ts zs q (coded.Take z x f) rest e n = rw e refl
-  follow_on go levels i m ts zs q (coded.Set z x f y) rest e n = rw e refl
-  follow_on go levels i m ts zs q (coded.Add z x y) rest e n = rw e refl
-  follow_on go levels i m ts zs q (coded.Call z x args) rest e n = rw e refl
-  follow_on go levels i m ts zs q (coded.Fork x args) rest e n = rw e refl
-  follow_on go levels i m ts zs q (coded.Return x) rest e n = rw e refl
-  follow_on go levels i m ts zs q (coded.Again args) rest e n = rw e refl
-  follow_on go levels i m ts zs q (coded.Join x) rest e n = rw e refl
-  follow_on go levels i m ts zs q (coded.Emit x) rest e n = rw e refl
-  follow_on go levels i m ts zs q (coded.Ask t a b) rest e n = absurd (n t a b refl)
+  follow_on go levels i m ts zs q r rest e n =
+      let h : go levels m zs q rest ≡ go levels (suc i) zs q rest = ap (λ (x : ℕ). go levels x zs q rest) e in
+      no_test (λ (sh : Shape). go levels m zs q rest ≡ follow p fn k go levels i ts zs q sh rest) h h (λ x. h) r n
 
   -- and one that begins with any other record
   pub block_goes : (f g levels left i m : ℕ) (ts us : List Ty) (q : Sort) (rs : List (Option Op)) (o : Option Op) (rest : List (Option Op)) (r : declared.Record) → f ≡ suc g → rs ≡ o ∷ rest

@@ -12,3 +12,5 @@ mod Loops
 pub mod Judging
 pub mod Checked
 pub mod Walk
+pub mod Before
+pub mod Stacks

@@ -90,6 +90,13 @@ module _ (p : Program) (fn : Function) (k : ℕ) where
   abbrev size : ℕ
   size = length fn.records
 
+  -- what is asked of a record by its blocks, and by what is left of the innermost one
+  pub judged_same : (i l n : ℕ) (ts : List Ty) (bs : List Block) (op : Op) → end_of size bs ≡ suc i + n → l + length bs ≡ 7 → depth bs ≤ length ts
+      → first (asked p fn i (state ts bs) op) ≡ judge p fn k l n (sort_of bs) ts (Some op)
+  judged_same i l n ts bs op ends levels deep =
+      first_two (premises p fn ts op) (placed size i bs (shape op)) (leb (depth bs) (length ts)) (fitting l n (sort_of bs) (shape op))
+      (fitting_is size i l n bs (shape op) ends levels) (le-leb (depth bs) (length ts) deep)
+
   pub close_any : (n : ℕ) (ts us : List Ty) (bs : List Block) (rest : List (Option Op)) → end_of size bs ≡ n → Tail bs rest → read p fn k n (close n ts bs) rest ≡ read p fn k n (close n us bs) rest
   close_any n ts us [] rest h e = rw e refl
   close_any n ts us (Yes c e s ∷ bs) rest h t =
@@ -215,10 +222,7 @@ module _ (p : Program) (fn : Function) (k : ℕ) where
         ≡ ((settled (judge p fn k l (length rs) (sort_of bs) ts o) k i >>= λ _. follow_of p fn k (scan p fn k f) l i ts (sort_of bs) o rs) >>= λ _. Behind i ts bs (r ∷ rs) rest)
     decided i l ts bs r rs rest low w None = refl
     decided i l ts bs r rs rest low w (Some op) =
-        let fit = fitting_is size i l (length rs) bs (shape op) (omega (arith, w.ends)) w.levels in
-        let same : first (asked p fn i (state ts bs) op) ≡ judge p fn k l (length rs) (sort_of bs) ts (Some op) =
-        first_two (premises p fn ts op) (placed size i bs (shape op)) (leb (depth bs) (length ts)) (fitting l (length rs) (sort_of bs) (shape op)) fit (le-leb (depth bs) (length ts) w.deep)
-        in
+        let same = judged_same i l (length rs) ts bs op (omega (arith, w.ends)) w.levels w.deep in
         ap (λ v. settled v k i >>= λ _. read p fn k (suc i) (after p fn i (state ts bs) (Some op)) (rs ++ rest)) same
         ∙ by (judge p fn k l (length rs) (sort_of bs) ts (Some op)) refl
       where

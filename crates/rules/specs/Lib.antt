@@ -11,3 +11,6 @@ pub mod Checked
 pub mod Walk
 pub mod Examples
 pub mod Trials
+pub mod Before
+pub mod Stacks
+pub mod ScopeTrials

@@ -84,7 +84,8 @@ impl<'t> Body<'t> {
 
     // How many records it has.
     pub fn records(self) -> usize
-        ensures { result ≡ length (function_in self.entry).records }
+        ensures value { result ≡ length (function_in self.entry).records }
+        ensures few { result ≤ 255 }
     {
         self.table.records(self.function)
     }

@@ -40,7 +40,7 @@ impl Drop for Guard<'_> {
 }
 
 // The first record of a part, unless it is refused: 20, then 21 to 27 by its rule, then 28 and 29 by its place.
-fn judge<'t>(body: Body<'t>, types: &[Ty], part: Part) -> Result<Record<'t>, Fault>
+pub(crate) fn judge<'t>(body: Body<'t>, types: &[Ty], part: Part) -> Result<Record<'t>, Fault>
     requires { (part.place < part.end) × (part.floor ≤ length types.now) }
     ensures { said_by result ≡ judged_at body.entry types.now part }
 {

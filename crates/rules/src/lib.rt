@@ -8,8 +8,10 @@ mod flow;
 mod parts;
 mod premises;
 mod scope;
+mod scoping;
 pub mod theorems;
 mod walking;
 
 pub use checking::check;
+pub use scoping::scope_at;
 pub use walking::scope_before;

@@ -1,6 +1,7 @@
 // What the rules say of every table.
 ghost use Rattle.rules.specs.Examples.{Examples};
 ghost use Rattle.rules.specs.Trials.{Trials};
+ghost use Rattle.rules.specs.ScopeTrials.{ScopeTrials};
 ghost use Rattle.rules.specs.Formed.{ProgramStands};
 ghost use Rattle.rules.specs.Blocks.{JoinsStand, FitStands};
 ghost use Rattle.rules.specs.Scan.{NumbersStand};
@@ -15,6 +16,13 @@ pub fn examples_stand() -> u8
 // Verdicts on bodies where tests, blocks and withheld fields meet.
 pub fn trials_stand() -> u8
     ensures { Trials }
+{
+    0
+}
+
+// The scopes before the records of such bodies.
+pub fn scope_trials_stand() -> u8
+    ensures { ScopeTrials }
 {
     0
 }

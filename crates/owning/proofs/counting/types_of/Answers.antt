@@ -14,7 +14,7 @@ returns-in-Ok c =
     found.value ∙ scoped_accepted (length c.args.scratch.now) F.function F.index p c.requires.1.1 c.requires.0 (record_there p F c.requires.1.0)
     in
     let counted : c.in-Ok.depth ≡ length (types_before p F.function F.index) = cc in
-    let fits = types_fit (types_before p F.function F.index) c.scope_before.new.scratch c.in-Ok.depth counted found.types in
+    let fits = types_fit (types_before p F.function F.index) c.scope_at.new.scratch c.in-Ok.depth counted found.types in
     record { types = found.types; room = omega (arith, fits) }
 
 pub returns-in-Err : goal.returns-in-Err

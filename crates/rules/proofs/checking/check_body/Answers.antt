@@ -7,4 +7,4 @@ pub returns : goal.returns
 returns c =
     let b = c.args.body in
     body_read (program_in b) (function_in b) b.function c.records.result c.check_block.result (take c.enter-depth.result c.enter-depth.new.types)
-    c.enter-depth.ensures.types c.records.ensures (c.check_block.ensures.value (suc (length (function_in b).records)) (omega arith))
+    c.enter-depth.ensures.types c.records.ensures.value (c.check_block.ensures.value (suc (length (function_in b).records)) (omega arith))

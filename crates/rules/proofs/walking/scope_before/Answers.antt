@@ -6,7 +6,7 @@ use Rattle.rules.proofs.walking.scope_before.Goals as goal
 
 pub returns-then-index-records : goal.returns-then-index-records
 unfolding seen
-returns-then-index-records c = record { missing = λ h. refl; small = λ h. refl; found = λ v there room. absurd (omega (arith, c.records.ensures)) }
+returns-then-index-records c = record { missing = λ h. refl; small = λ h. refl; found = λ v there room. absurd (omega (arith, c.records.ensures.value)) }
 
 pub returns-then-scratch-lt16 : goal.returns-then-scratch-lt16
 returns-then-scratch-lt16 c = record { missing = λ h. refl; small = λ h. refl; found = λ v there room. absurd (omega arith) }

@@ -3,4 +3,4 @@ use Rattle.rules.proofs.body.Body.records.Goals as goal
 
 pub returns : goal.returns
 unfolding seen
-returns c = c.records.ensures.value
+returns c = record { value = c.records.ensures.value; few = c.records.ensures.bound }

@@ -2,10 +2,10 @@ use Rattle.std.proofs.Common.{◌+◌, ◌<◌, ◌≤◌, reverse, length, sym,
 use mathlib.Core.Path.{subst⁻¹}
 use Rattle.list.specs.Held.{held, room}
 use Rattle.list.proofs.Ends.{popped_less}
-use Rattle.scoping.specs.Stacks.{Deep, stack}
+use Rattle.rules.specs.Stacks.{Deep, stack}
 use Rattle.rules.proofs.Judging.{none_left}
-use Rattle.scoping.proofs.Stacks.{end_none, end_later, top_deep, end_on, end_over, over_deep}
-use Rattle.scoping.proofs.+end_blocks.Goals as goal
+use Rattle.rules.proofs.Stacks.{end_none, end_later, top_deep, end_on, end_over, over_deep}
+use Rattle.rules.proofs.scoping.+end_blocks.Goals as goal
 
 pub returns-in_default : goal.returns-in_default
 returns-in_default t c = record {

@@ -1,8 +1,8 @@
 use Rattle.std.proofs.Common.{length}
 use Rattle.list.specs.Held.{held}
 use Rattle.rules.specs.Seen.{function_in}
-use Rattle.scoping.proofs.Stacks.{part_some, part_none}
-use Rattle.scoping.proofs.innermost.Goals as goal
+use Rattle.rules.proofs.Stacks.{part_some, part_none}
+use Rattle.rules.proofs.scoping.innermost.Goals as goal
 
 pub returns-in-Some : goal.returns-in-Some
 returns-in-Some c =

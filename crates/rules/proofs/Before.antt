@@ -10,17 +10,17 @@ use Rattle.table.specs.Faults.{Passes, fault, ◌>>=◌}
 use Rattle.table.specs.Records.{Op}
 use Rattle.table.specs.Program.{Function, Program}
 use Rattle.rules.specs.declared.body.Body.{Body}
-use Rattle.scoping.specs.declared.Open.{Open}
+use Rattle.rules.specs.declared.scoping.Open.{Open}
 use Rattle.rules.specs.Scopes.{Block, State, end_of, settled, refusal, after, read, start, before, verdict}
 use Rattle.rules.specs.Seen.{program_in, function_in}
 use Rattle.rules.specs.Blocks.{Still}
 use Rattle.rules.specs.Rules.{no_function, callee, record_at}
 use Rattle.rules.proofs.Steps.{before_suc, settle, verdict_stands}
 use Rattle.rules.proofs.Laws.{accepted_read}
-use Rattle.rules.proofs.Blocks.{stepped-at}
+use Rattle.rules.proofs.Blocks.{stepped_at}
 use Rattle.rules.proofs.Judging.{then_err, then_taken}
-use Rattle.scoping.specs.Stacks.{blocks_of, state_of, Deep, Behind}
-use Rattle.scoping.specs.Before.{scoped}
+use Rattle.rules.specs.Stacks.{blocks_of, state_of, Deep, Behind}
+use Rattle.rules.specs.Before.{scoped}
 
 -- record i of a body is reached on the way to record j: these types and open blocks stand for the state before it, and what is left to read
 -- decides
@@ -90,7 +90,7 @@ module _ (b : Body) (j : ℕ) (there : j < length (function_in b).records) where
           sym (before_suc (program_in b) (function_in b) i m) ∙ ap at (sym (add-one i))
           in
           let go : Still (length its_records) [] (suc i) (at (suc i)) =
-          elim (stepped-at (program_in b) (function_in b) [] i m ok w.still) [
+          elim (stepped_at (program_in b) (function_in b) [] i m ok w.still) [
             | inl x ↦ x
             | inr x ↦ absurd (omega (arith, x.there))
           ]

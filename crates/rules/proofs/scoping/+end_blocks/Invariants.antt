@@ -1,6 +1,6 @@
 use Rattle.std.proofs.Common.{length}
 use Rattle.list.specs.Held.{held}
-use Rattle.scoping.proofs.+end_blocks.Given as goal
+use Rattle.rules.proofs.scoping.+end_blocks.Given as goal
 
 abbrev pub decreases-end_blocks : goal.decreases-end_blocks
 decreases-end_blocks l = length (held l.blocks.now)

@@ -6,10 +6,10 @@ use Rattle.table.specs.Records.{meant}
 use Rattle.list.specs.Held.{held}
 use Rattle.rules.specs.Rules.{record_at}
 use Rattle.rules.specs.Seen.{program_in, function_in}
-use Rattle.scoping.specs.Stacks.{state_of, stack, Deep, Passed}
+use Rattle.rules.specs.Stacks.{state_of, stack, Deep, Passed}
 use Rattle.rules.proofs.Judging.{accepted}
-use Rattle.scoping.proofs.Stacks.{first_of, starts, floored, passed_not, asked_here, behind_test, behind_plain, deep_more}
-use Rattle.scoping.proofs.pass.Goals as goal
+use Rattle.rules.proofs.Stacks.{first_of, starts, floored, passed_not, asked_here, behind_test, behind_plain, deep_more}
+use Rattle.rules.proofs.scoping.pass.Goals as goal
 
 pub innermost-part-requires : goal.innermost-part-requires
 innermost-part-requires c = omega (arith, length-take c.args.blocks.now.len c.args.blocks.now.items.now, c.requires.0.1.1.1)

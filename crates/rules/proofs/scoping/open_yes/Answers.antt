@@ -4,8 +4,8 @@ use Rattle.rules.specs.Rules.{yes_types}
 use Rattle.rules.specs.Seen.{program_in, function_in}
 use Rattle.rules.proofs.Seen.{seen_narrow}
 use Rattle.rules.proofs.Judging.{accepted_changes}
-use Rattle.scoping.proofs.Stacks.{open_state, open_deep}
-use Rattle.scoping.proofs.open_yes.Goals as goal
+use Rattle.rules.proofs.Stacks.{open_state, open_deep}
+use Rattle.rules.proofs.scoping.open_yes.Goals as goal
 
 pub changes-change-requires : goal.changes-change-requires
 changes-change-requires c =

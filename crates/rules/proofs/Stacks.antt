@@ -20,16 +20,16 @@ use Rattle.rules.specs.declared.body.Body.{Body}
 use Rattle.rules.specs.declared.parts.Part.{Part}
 use Rattle.rules.specs.declared.parts.Sort.{Sort}
 use Rattle.rules.specs.declared.parts.Sort.TheVariants.{InBody}
-use Rattle.scoping.specs.declared.Open.{Open}
+use Rattle.rules.specs.declared.scoping.Open.{Open}
 use Rattle.rules.specs.Scopes.{Block, Yes, No, State, state, end, saved, close, end_of, depth, Shape, shape, grown, move, settled, refusal, after}
 use Rattle.rules.specs.Scan.{sort_of, judge, judged_of}
 use Rattle.rules.specs.Parts.{judged_at}
 use Rattle.rules.specs.Seen.{program_in, function_in}
 use Rattle.rules.specs.Rules.{number, record_at, first, asks, bound, yes_types}
 use Rattle.rules.proofs.Blocks.{close_no, close_yes, close_turn}
-use Rattle.rules.proofs.Scan.{judged-same}
+use Rattle.rules.proofs.Scan.{judged_same}
 use Rattle.rules.proofs.Judging.{front_changed, no_test, settle_ok, accepted_test}
-use Rattle.scoping.specs.Stacks.{back, block_by, sort_by, following, blocks_of, state_of, stack, Deep, part_at, Behind}
+use Rattle.rules.specs.Stacks.{back, block_by, sort_by, following, blocks_of, state_of, stack, Deep, part_at, Behind}
 
 -- the innermost block
 pub part_some : (size i l : ℕ) (xs : List Open) (o : Open) (q : Sort) → Some o ≡ last_of xs → l ≡ length xs → q ≡ sort_by o.count
@@ -231,13 +231,13 @@ module _ (p : Program) (fn : Function) (k i l n : ℕ) (ts : List Ty) (bs : List
   pub judged_refusal : (o : Option Op) (e : Fault) → Err e ≡ judged_of p fn k l n (sort_of bs) ts i o → Err e ≡ settled (refusal p fn i (state ts bs) o) k i
   judged_refusal None e h = let x : e ≡ fault 20 (Record k i) = cc in ap Err x
   judged_refusal (Some op) e h =
-      settled_err (judge p fn k l n (sort_of bs) ts (Some op)) k i op e h ∙ ap (λ (v : Option ℕ). settled v k i) (sym (judged-same p fn k i l n ts bs op ends levels deep))
+      settled_err (judge p fn k l n (sort_of bs) ts (Some op)) k i op e h ∙ ap (λ (v : Option ℕ). settled v k i) (sym (judged_same p fn k i l n ts bs op ends levels deep))
 
   pub judged_allowed : (o : Option Op) (op : Op) → Ok op ≡ judged_of p fn k l n (sort_of bs) ts i o → (o ≡ Some op) × (refusal p fn i (state ts bs) o ≡ None)
   judged_allowed None op h = let z : ◌≡◌ {A = ℕ} 0 1 = cc in absurd (omega arith)
   judged_allowed (Some x) op h =
       let a = settle_ok (judge p fn k l n (sort_of bs) ts (Some x)) k i x op h in
-      (ap Some a.1, judged-same p fn k i l n ts bs x ends levels deep ∙ a.0)
+      (ap Some a.1, judged_same p fn k i l n ts bs x ends levels deep ∙ a.0)
 
 -- record i of a body is the first of what is left of the innermost block
 pub record First (b : Body) (i d : ℕ) (ts : List Ty) (os : List Open) (q : Part) : Type 0 where

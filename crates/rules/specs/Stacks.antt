@@ -8,7 +8,7 @@ use Rattle.rules.specs.declared.body.Body.{Body}
 use Rattle.rules.specs.declared.parts.Part.{Part}
 use Rattle.rules.specs.declared.parts.Sort.{Sort}
 use Rattle.rules.specs.declared.parts.Sort.TheVariants.{InBody, InYes, InNo}
-use Rattle.scoping.specs.declared.Open.{Open}
+use Rattle.rules.specs.declared.scoping.Open.{Open}
 use Rattle.rules.specs.Rules.{record_at}
 use Rattle.rules.specs.Scopes.{Block, Yes, No, State, state, settled, refusal, after}
 use Rattle.rules.specs.Seen.{program_in, function_in}

@@ -6,10 +6,10 @@ use Rattle.rules.specs.declared.body.Body.{Body}
 use Rattle.rules.specs.Rules.{callee}
 use Rattle.rules.specs.Scopes.{before}
 use Rattle.rules.specs.Seen.{seen}
-use Rattle.scoping.specs.Before.{scoped, Fronts}
+use Rattle.rules.specs.Before.{scoped, Fronts}
 use Rattle.rules.proofs.Seen.{seen_is}
-use Rattle.scoping.proofs.Before.{reached_start, reached_low, reached_refused, reached_next, reached_types, reached_all, reached_count, scoped_missing, scoped_refused, scoped_found}
-use Rattle.scoping.proofs.scope_before.Goals as goal
+use Rattle.rules.proofs.Before.{reached_start, reached_low, reached_refused, reached_next, reached_types, reached_all, reached_count, scoped_missing, scoped_refused, scoped_found}
+use Rattle.rules.proofs.scoping.scope_at.Goals as goal
 
 pub returns-then-index-records : goal.returns-then-index-records
 returns-then-index-records c = record {

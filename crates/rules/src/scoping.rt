@@ -1,5 +1,4 @@
 // The scope before a record: the records before it are read in turn, with the open blocks in a list.
-#![tactic(auto)]
 ghost use Rattle.std.specs.Prelude.{◌≡◌, ◌<◌, ◌≤◌, ◌∷◌, length, take, None};
 ghost use Rattle.table.specs.Reading.{program_of};
 ghost use Rattle.list.specs.Held.{held, room};
@@ -7,14 +6,14 @@ ghost use Rattle.rules.specs.Rules.{callee, yes_types};
 ghost use Rattle.rules.specs.Scopes.{state, Yes, close, end_of, before};
 ghost use Rattle.rules.specs.Seen.{program_in, function_in};
 ghost use Rattle.rules.specs.Parts.{test_refused_in};
-ghost use Rattle.scoping.specs.Before.{scoped, Fronts};
-ghost use Rattle.scoping.specs.Stacks.{sort_by, following, blocks_of, state_of, stack, Deep, part_at, Passed};
+ghost use Rattle.rules.specs.Before.{scoped, Fronts};
+ghost use Rattle.rules.specs.Stacks.{sort_by, following, blocks_of, state_of, stack, Deep, part_at, Passed};
 
 use list::Bounded;
-use rules::body::{Body, NUMBER};
-use rules::checking::{bind, enter, judge};
-use rules::parts::{Part, Sort};
-use rules::scope::Scope;
+use super::body::{Body, NUMBER};
+use super::checking::{bind, enter, judge};
+use super::parts::{Part, Sort};
+use super::scope::Scope;
 use table::fault::{Fault, Place};
 use table::records::{Record, Test};
 use table::types::Ty;
@@ -185,7 +184,7 @@ fn pass(
 
 // How many types are in scope before a record; the scratch, for 128 types, then holds them in front. Refused where there is no such record, and
 // where a record before it is.
-pub fn scope_before(
+pub fn scope_at(
     table: &Table<'_>,
     function: usize,
     index: usize,

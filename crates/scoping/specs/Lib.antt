@@ -1,3 +1,0 @@
-pub mod Before
-pub mod Stacks
-pub mod Trials
