@@ -8,7 +8,7 @@ import re
 import sys
 
 # Words of Rattle's own.
-MADE = ["in_ok", "in_err", "in_default", "from_residual", "overflow_add", "overflow_sub", "overflow_mul"]
+MADE = ["in_ok", "in_err", "in_default", "from_residual", "overflow_add", "overflow_sub", "overflow_mul", "offset_bounds"]
 
 crates = sys.argv[1:] or [p.split("/")[1] for p in glob.glob("crates/*/")]
 for crate in crates:

@@ -9,11 +9,11 @@ ghost use Rattle.rules.specs.Parts.{test_refused_in};
 ghost use Rattle.rules.specs.Before.{scoped, Fronts};
 ghost use Rattle.rules.specs.Stacks.{sort_by, following, blocks_of, state_of, stack, Deep, part_at, Passed};
 
-use list::Bounded;
 use super::body::{Body, NUMBER};
 use super::checking::{bind, enter, judge};
 use super::parts::{Part, Sort};
 use super::scope::Scope;
+use list::Bounded;
 use table::fault::{Fault, Place};
 use table::records::{Record, Test};
 use table::types::Ty;

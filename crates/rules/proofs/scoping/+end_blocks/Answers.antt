@@ -21,8 +21,8 @@ returns-then-block-place t c = record {
   room = refl;
 }
 
-pub offset-bounds-types-block : goal.offset-bounds-types-block
-offset-bounds-types-block t c =
+pub offset_bounds-types-block : goal.offset_bounds-types-block
+offset_bounds-types-block t c =
     let k = top_deep c.args.depth (held c.args.blocks.now) c.in-Some.block c.in-Some.ensures c.requires.1.1.1 in
     let deep : c.args.depth ≤ 16 = c.requires.0 in
     let low : c.in-Some.block.slot < 16 = omega (arith, k.0, k.1) in

@@ -12,7 +12,7 @@ use Rattle.rules.proofs.Stacks.{first_of, starts, floored, passed_not, asked_her
 use Rattle.rules.proofs.scoping.pass.Goals as goal
 
 pub innermost-part-requires : goal.innermost-part-requires
-innermost-part-requires c = omega (arith, length-take c.args.blocks.now.len c.args.blocks.now.items.now, c.requires.0.1.1.1)
+innermost-part-requires c = omega (arith, length-take c.args.blocks.now.len c.args.blocks.now.items.now, c.requires.depth_bound.1.1.1)
 
 pub judge-requires : goal.judge-requires
 judge-requires c =
@@ -23,7 +23,7 @@ judge-requires c =
     let os = stack c.args.blocks.now in
     let q = c.innermost-part.result in
     let w = first_of c.args.body c.args.place c.args.depth c.args.types.now c.args.blocks.now c.innermost-part.result c.innermost-part.ensures
-    c.requires.0.0 c.requires.0.1.0 c.requires.0.1.1.1 c.requires.1.0 c.requires.1.1
+    c.requires.depth_bound.0 c.requires.depth_bound.1.0 c.requires.depth_bound.1.1.1 c.requires.deep.0 c.requires.deep.1
     in
     (starts b i d ts os q w, floored b i d ts os q w)
 
@@ -36,7 +36,7 @@ returns-in_err-said c =
     let os = stack c.args.blocks.now in
     let q = c.innermost-part.result in
     let w = first_of c.args.body c.args.place c.args.depth c.args.types.now c.args.blocks.now c.innermost-part.result c.innermost-part.ensures
-    c.requires.0.0 c.requires.0.1.0 c.requires.0.1.1.1 c.requires.1.0 c.requires.1.1
+    c.requires.depth_bound.0 c.requires.depth_bound.1.0 c.requires.depth_bound.1.1.1 c.requires.deep.0 c.requires.deep.1
     in
     let p = err_from_is_err_and c.from_residual.result c.from_residual.ensures.1 in
     record {
@@ -53,11 +53,11 @@ open_yes-requires c =
     let os = stack c.args.blocks.now in
     let q = c.innermost-part.result in
     let w = first_of c.args.body c.args.place c.args.depth c.args.types.now c.args.blocks.now c.innermost-part.result c.innermost-part.ensures
-    c.requires.0.0 c.requires.0.1.0 c.requires.0.1.1.1 c.requires.1.0 c.requires.1.1
+    c.requires.depth_bound.0 c.requires.depth_bound.1.0 c.requires.depth_bound.1.1.1 c.requires.deep.0 c.requires.deep.1
     in
     let a = asked_here b i d ts os q w (meant c.in_ok-said.said) c.in-Ask.test c.in-Ask.yes c.in-Ask.no (ap meant c.in-Ask.is) c.in_ok-said.ensures in
     let n : length (stack c.args.blocks.now) ≡ length (held c.args.blocks.now) = length-reverse (held c.args.blocks.now) in
-    (c.requires.0.0, (c.requires.0.1.0, (omega (arith, a.1, c.requires.0.1.1.1), a.2)))
+    (c.requires.depth_bound.0, (c.requires.depth_bound.1.0, (omega (arith, a.1, c.requires.depth_bound.1.1.1), a.2)))
 
 pub bind-grown-requires : goal.bind-grown-requires
 bind-grown-requires c =
@@ -67,13 +67,13 @@ bind-grown-requires c =
     accepted (program_in b) (function_in b) b.function q.levels (q.end - (q.place + 1)) q.sort (take c.args.depth c.args.types.now) q.place (record_at (function_in b) q.place) (meant c.in_ok-said.said)
     c.in_ok-said.ensures
     in
-    (k.0, (c.requires.0.0, c.requires.0.1.0))
+    (k.0, (c.requires.depth_bound.0, c.requires.depth_bound.1.0))
 
 pub end_blocks-requires : goal.end_blocks-requires
 end_blocks-requires c =
-    let low : c.args.place ≤ 255 = c.requires.0.1.1.0 in
-    let long : 16 ≤ length c.args.types.now = c.requires.0.1.0 in
-    let deep : Deep c.bind-grown.result (stack c.args.blocks.now) = deep_more c.args.depth c.bind-grown.result (stack c.args.blocks.now) c.bind-grown.ensures.depth.0 c.requires.1.0 in
+    let low : c.args.place ≤ 255 = c.requires.depth_bound.1.1.0 in
+    let long : 16 ≤ length c.args.types.now = c.requires.depth_bound.1.0 in
+    let deep : Deep c.bind-grown.result (stack c.args.blocks.now) = deep_more c.args.depth c.bind-grown.result (stack c.args.blocks.now) c.bind-grown.ensures.depth.0 c.requires.deep.0 in
     search rules
 
 pub returns-in-Ask : goal.returns-in-Ask
@@ -85,12 +85,12 @@ returns-in-Ask c =
     let os = stack c.args.blocks.now in
     let q = c.innermost-part.result in
     let w = first_of c.args.body c.args.place c.args.depth c.args.types.now c.args.blocks.now c.innermost-part.result c.innermost-part.ensures
-    c.requires.0.0 c.requires.0.1.0 c.requires.0.1.1.1 c.requires.1.0 c.requires.1.1
+    c.requires.depth_bound.0 c.requires.depth_bound.1.0 c.requires.depth_bound.1.1.1 c.requires.deep.0 c.requires.deep.1
     in
     record {
       value =
           behind_test b i d ts os q w (meant c.in_ok-said.said) c.in-Ask.test c.in-Ask.yes c.in-Ask.no (i + 1 + c.in-Ask.yes) c.open_yes.new.types _
-          (ap meant c.in-Ask.is) c.in_ok-said.ensures (ap (λ n. n + c.in-Ask.yes) (add-one i)) c.requires.0.0 c.open_yes.ensures.state (c.open_yes.ensures.deep c.requires.1.0);
+          (ap meant c.in-Ask.is) c.in_ok-said.ensures (ap (λ n. n + c.in-Ask.yes) (add-one i)) c.requires.depth_bound.0 c.open_yes.ensures.state (c.open_yes.ensures.deep c.requires.deep.0);
       room = c.open_yes.ensures.room;
     }
 
@@ -103,7 +103,7 @@ returns-in_default c =
     let os = stack c.args.blocks.now in
     let q = c.innermost-part.result in
     let w = first_of c.args.body c.args.place c.args.depth c.args.types.now c.args.blocks.now c.innermost-part.result c.innermost-part.ensures
-    c.requires.0.0 c.requires.0.1.0 c.requires.0.1.1.1 c.requires.1.0 c.requires.1.1
+    c.requires.depth_bound.0 c.requires.depth_bound.1.0 c.requires.depth_bound.1.1.1 c.requires.deep.0 c.requires.deep.1
     in
     record {
       value =

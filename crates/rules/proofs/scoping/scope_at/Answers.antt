@@ -31,7 +31,10 @@ pass-requires c =
     let j = c.args.index in
     let there : c.args.index < length (callee (seen c.args.table.now) c.args.function).records = omega (arith, c.records.ensures.value) in
     let w = c.loop-place.invariant.0 in
-    ((w.few, (omega arith, (omega (arith, c.records.ensures.few), c.loop-place.invariant.1))), (w.deep, reached_low b j there c.loop-place.place c.loop-place.depth c.loop-place.scratch _ w))
+    record {
+      depth_bound = (w.few, (omega arith, (omega (arith, c.records.ensures.few), c.loop-place.invariant.1)));
+      deep = (w.deep, reached_low b j there c.loop-place.place c.loop-place.depth c.loop-place.scratch _ w);
+    }
 
 pub returns-in_err-depth : goal.returns-in_err-depth
 returns-in_err-depth c =

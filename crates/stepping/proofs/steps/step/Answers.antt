@@ -24,8 +24,8 @@ bounds-machine-thread g c =
     let l = runs_there (tasks_of c.args.machine.now) c.args.thread r in
     omega (arith, l, c.len-count.ensures.value, c.len-count.ensures.most)
 
-pub offset-bounds-machine-thread : goal.offset-bounds-machine-thread
-offset-bounds-machine-thread g c =
+pub offset_bounds-machine-thread : goal.offset_bounds-machine-thread
+offset_bounds-machine-thread g c =
     let r : is_running (get_or (tasks_of c.args.machine.now) c.args.thread no_task).status ≡ true = sym c.runs.ensures ∙ c.if-not-runs.false in
     let l = runs_there (tasks_of c.args.machine.now) c.args.thread r in
     let k : c.args.thread < 8 = omega (arith, l, c.len-count.ensures.value, c.len-count.ensures.most) in
