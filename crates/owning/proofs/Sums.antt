@@ -1,5 +1,5 @@
 -- Sums over slots, frames and threads, one more at a time, and what is known of each frame.
-use Rattle.std.proofs.Common.{◌≡◌, ℕ, zero, suc, ◌+◌, ◌<◌, ◌≤◌, min, Bool, true, false, ◌&&◌, ltb, List, [], ◌∷◌, map, length, get_or, take, drop, Ok, Err, sym, refl, ap, ◌∙◌, subst, ap₂, inl, inr, arith, length-take}
+use Rattle.std.proofs.Common.{◌≡◌, ℕ, zero, suc, ◌+◌, ◌<◌, ◌≤◌, min, true, false, ◌&&◌, ltb, List, [], ◌∷◌, map, length, get_or, take, drop, Ok, sym, refl, ap, ◌∙◌, ap₂, inl, inr, arith, length-take}
 use Rattle.std.proofs.lemmas.List.{drop_more, get_or-map, length-map, at_drop_more, at_drop_all}
 use Rattle.std.proofs.lemmas.Bool.{and_parts, cases_lt, ltb-true}
 use Rattle.table.specs.declared.fault.Place.TheVariants as place
@@ -15,7 +15,7 @@ use Rattle.machine.specs.declared.threads.Frame.{Frame}
 use Rattle.machine.specs.declared.threads.Thread.{Thread}
 use Rattle.machine.specs.declared.threads.Status.TheVariants.{Running}
 use Rattle.machine.specs.World.{task_of, no_task, no_frame, in_table}
-use Rattle.safety.specs.Owners.{owns, slots_owning, frames_owning, tasks_owning, all_in_table, frames_known}
+use Rattle.safety.specs.Owners.{owns, slots_owning, all_in_table, frames_known}
 
 -- what stands for a thread that is not there
 abbrev pub no_thread : Thread

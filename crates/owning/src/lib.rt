@@ -1,5 +1,6 @@
 // How many slots own an object of a running table.
 #![tactic(auto)]
+
 ghost use Rattle.std.specs.Prelude.{◌≡◌, length};
 ghost use Rattle.table.specs.Reading.{program_of};
 ghost use Rattle.machine.specs.World.{world_of};

@@ -1,4 +1,4 @@
-use Rattle.std.proofs.Common.{◌≡◌, ℕ, length, Ok, Err, ◌∙◌, arith}
+use Rattle.std.proofs.Common.{◌≡◌, ℕ, length, Ok, ◌∙◌, arith}
 use Rattle.table.specs.Reading.{program_of}
 use Rattle.rules.proofs.Before.{scoped_accepted}
 use Rattle.safety.specs.Owners.{types_before}

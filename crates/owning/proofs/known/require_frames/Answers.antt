@@ -1,7 +1,7 @@
 use Rattle.std.proofs.Common.{◌≡◌, ◌<◌, map, length, ap, ◌∙◌, arith}
 use Rattle.std.proofs.lemmas.List.{length-map}
 use Rattle.table.specs.declared.fault.Place.TheVariants.{Thread}
-use Rattle.table.specs.Faults.{goal as demanded}
+use Rattle.table.specs.Faults.{need as demanded}
 use Rattle.table.specs.Reading.{program_of}
 use Rattle.table.proofs.Listing.{each_next, each_refused, each_ends}
 use Rattle.machine.specs.World.{task_of}
