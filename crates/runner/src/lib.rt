@@ -1,5 +1,6 @@
 // Runs of a machine, with the promise that an accepted table keeps on every run.
 #![tactic(auto)]
+
 ghost use Rattle.std.specs.Prelude.{◌≡◌, ◌≤◌, length, Result};
 ghost use Rattle.list.specs.Held.{held, room};
 ghost use Rattle.table.specs.Reading.{program_of};

@@ -2,13 +2,12 @@
 use Rattle.std.proofs.Common.{◌≡◌, ℕ, suc, ◌+◌, ◌-◌, ◌%◌, ◌^◌, ◌<◌, true, false, ltb, ◌⊎◌, List, [], ◌∷◌, length, get_or, set, Some, None, sym, refl, ap, ◌∙◌, subst, inl, inr, arith}
 use Rattle.std.proofs.lemmas.List.{length-set}
 use Rattle.std.proofs.lemmas.Bool.{eqb-true, eqb-false, ltb-true, and_parts, and_from, or_cases, or_left, not-true, cond-true, cond-false, cases_Bool}
-use Rattle.table.specs.declared.types.Kind.TheVariants.{Number}
 use Rattle.table.specs.declared.types.Ty.{Ty}
 use Rattle.table.specs.declared.types.Field.{Field}
 use Rattle.table.specs.Program.{Program}
 use Rattle.table.specs.Types.{is_alias, is_owned, is_var}
 use Rattle.table.specs.Records.{New, Null, Int, Share, Own, Get, Take, Set, Add, Join, Emit}
-use Rattle.rules.specs.Rules.{callee, slot, free, flows, premises, without, with, tentative, asks}
+use Rattle.rules.specs.Rules.{callee, slot, free, flows, premises, without, with, tentative}
 use Rattle.rules.specs.Scopes.{shape}
 use Rattle.rules.specs.Laws.{Holds}
 use Rattle.memory.specs.Model.{Store, count_of, with_object}

@@ -1,11 +1,11 @@
 -- Call, fork, again and return: each keeps what is kept, and is never stuck.
-use Rattle.std.proofs.Common.{◌≡◌, ℕ, suc, ◌+◌, ◌-◌, ◌<◌, ◌≤◌, true, eqb, ltb, List, [], ◌∷◌, ◌++◌, length, get_or, take, drop, set, Some, None, sym, refl, ap, ◌∙◌, subst, inl, inr, arith}
+use Rattle.std.proofs.Common.{◌≡◌, ℕ, suc, ◌-◌, ◌<◌, ◌≤◌, true, eqb, ltb, List, [], ◌∷◌, ◌++◌, length, get_or, take, drop, set, Some, None, sym, refl, ap, ◌∙◌, subst, inl, inr, arith}
 use Rattle.std.proofs.lemmas.List.{length-set, length_push, length-take-le, get_or-take, get_or_past, get_or_push, get_or-set_same, get_or-set_other}
 use Rattle.std.proofs.lemmas.Bool.{eqb-true, ltb-true, and_parts, and_from, cond_both, cases_lt}
 use Rattle.table.specs.declared.types.Ty.{Ty}
 use Rattle.table.specs.Program.{Program}
 use Rattle.table.specs.Records.{Op, Call, Fork, Return, Again}
-use Rattle.rules.specs.Rules.{first, callee, slot, flows, premises, asks, below, distinct, flow_to}
+use Rattle.rules.specs.Rules.{first, callee, slot, flows, premises, below, distinct, flow_to}
 use Rattle.rules.specs.Scopes.{shape}
 use Rattle.rules.specs.Formed.{HoldsBytes}
 use Rattle.rules.specs.Laws.{Holds}

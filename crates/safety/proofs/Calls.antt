@@ -7,7 +7,7 @@ use Rattle.machine.specs.declared.threads.Frame.{Frame}
 use Rattle.safety.specs.Model.{Claim, Structs, Spot, spot, Slots, Entry, out, here, put}
 use Rattle.safety.specs.Step.{Mem, Sound, Falls, ends, stays}
 use Rattle.safety.specs.Frames.{Arg, kept, leave, arrive, passed, passed_all, Ready, Later, AllReady}
-use Rattle.safety.specs.Threads.{Scopes, typed, entry_at, frame_at, flat, FallsSc}
+use Rattle.safety.specs.Threads.{Scopes, entry_at, frame_at, flat, FallsSc}
 use Rattle.safety.specs.Calls.{args_to, spend_vals, given_vals, param_scope, IsFrame}
 use Rattle.safety.proofs.Update.{put_at, put_off}
 use Rattle.safety.proofs.Frames.{pass, pass_all, later_ready, rename}

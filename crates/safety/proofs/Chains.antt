@@ -1,5 +1,5 @@
 -- The frames of a thread: each stands before a record of the table, and each but the newest waits at a call of the next.
-use Rattle.std.proofs.Common.{◌≡◌, ℕ, zero, suc, ◌+◌, ◌-◌, ◌<◌, true, List, [], ◌∷◌, ◌++◌, length, get_or, take, set, Some, sym, subst, arith}
+use Rattle.std.proofs.Common.{◌≡◌, ℕ, zero, suc, ◌<◌, true, List, [], ◌∷◌, ◌++◌, length, get_or, take, set, Some, sym, subst, arith}
 use Rattle.std.proofs.lemmas.Bool.{lt-ltb, and_from, cond-true}
 use Rattle.table.specs.Program.{Program}
 use Rattle.table.specs.Records.{Call}

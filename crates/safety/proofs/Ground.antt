@@ -1,5 +1,5 @@
 -- What is kept from step to step, and what is known of a frame that is about to step: its record, its operands, its memory.
-use Rattle.std.proofs.Common.{◌≡◌, ℕ, zero, suc, ◌+◌, ◌-◌, ◌<◌, Bool, true, false, cond, ltb, ◌⊎◌, List, [], ◌∷◌, ◌++◌, map, length, get_or, set, Some, None, Option, sym, refl, ap, ◌∙◌, subst, ap₂, inl, inr, arith}
+use Rattle.std.proofs.Common.{◌≡◌, ℕ, zero, suc, ◌<◌, Bool, true, false, cond, ltb, ◌⊎◌, List, [], ◌∷◌, ◌++◌, map, length, get_or, set, Some, None, Option, sym, refl, ap, ◌∙◌, subst, ap₂, inl, inr, arith}
 use Rattle.std.proofs.lemmas.Bool.{lt-ltb}
 use Rattle.table.specs.declared.types.Kind.{Kind}
 use Rattle.table.specs.declared.types.Kind.TheVariants.{Number, Alias, Owned, Pristine}
@@ -14,7 +14,6 @@ use Rattle.machine.specs.declared.threads.Slot.{Slot}
 use Rattle.machine.specs.declared.threads.Slot.TheVariants as V
 use Rattle.machine.specs.declared.threads.Frame.{Frame}
 use Rattle.machine.specs.World.{is_running}
-use Rattle.machine.specs.Ways.{go}
 use Rattle.machine.specs.Steps.{Turn, Fails, Does}
 use Rattle.machine.specs.Values.{is_empty, holds_number, is_reference, object_of, value_of}
 use Rattle.machine.specs.Reading.{fields, field, field_type, cell, slot_has_object, where_object, has_field, where_field}

@@ -7,14 +7,13 @@ use Rattle.machine.specs.declared.threads.Slot.TheVariants.{Null, Reference}
 use Rattle.machine.specs.Values.{reference_of, word_of}
 use Rattle.safety.specs.Model.{Right, alias, owned, pristine, Claim, pt, Content, fnum, falias, fowned, Structs, Cell, Heap, Slots, Spot, Entry, out, here, at, cell, put, wr, rank, own_ty, pris_ty, name_e, own_e, pris_e, mode_at, field_at, Stable, Dead, Part, Conf, Saved, EntryOK, Inv, pris, Has}
 use Rattle.safety.specs.Fields.{zeroed, stored, tentative, gone, fixed, Flows, ty_of, val_of, spent, With, Without, Alone, lent}
-use Rattle.safety.specs.Step.{poke, erase, Writable, RefTo, Plain, stays, Sound}
+use Rattle.safety.specs.Step.{poke, erase, Writable, RefTo, Plain, Sound}
 use Rattle.safety.proofs.Update.{put_at, put_off, at_inj, not_both, wr_at, wr_off}
 use Rattle.safety.proofs.Frame.{Grows, entry_frame}
 use Rattle.safety.proofs.Write.{wr_grows}
 use Rattle.safety.proofs.Flow.{has_none, pris_low, conf_ref, null_entry}
 use Rattle.safety.proofs.Erase.{put_put, put_spare, Off, off, off_wr, off_ghost, erase_wr}
 use Rattle.safety.proofs.Scope.{retype, move}
-use Rattle.safety.proofs.New.{low}
 use Rattle.safety.proofs.Cells.{claim, store}
 use Rattle.safety.proofs.Ghosts.{extract, lend, fix, fix_grows, fix_dead}
 use Rattle.safety.proofs.Ops.{var_once, val_spec, val_once, spec_once, off_true, val_back, word_ref, plain_rank, at_slot, var_unmarked, do_get}

@@ -1,5 +1,5 @@
 -- A thread of a checked program that is about to step: its record, its operands, and what it takes that a step keeps what is kept.
-use Rattle.std.proofs.Common.{◌≡◌, ℕ, suc, ◌+◌, ◌-◌, ◌<◌, Bool, true, false, cond, not, ◌||◌, eqb, ltb, List, [], ◌∷◌, ◌++◌, length, get_or, set, None, Option, sym, refl, ap, ◌∙◌, subst, inl, inr, arith}
+use Rattle.std.proofs.Common.{◌≡◌, ℕ, suc, ◌-◌, ◌<◌, Bool, true, false, cond, not, ◌||◌, eqb, ltb, List, [], ◌∷◌, ◌++◌, length, get_or, set, None, Option, sym, refl, ap, ◌∙◌, subst, inl, inr, arith}
 use Rattle.std.proofs.lemmas.List.{length-set, set-get_or}
 use Rattle.std.proofs.lemmas.Bool.{eqb-true, ltb-true, lt-ltb, and_parts, and_from, not_from_false}
 use Rattle.table.specs.declared.types.Kind.{Kind}
@@ -16,7 +16,7 @@ use Rattle.machine.specs.declared.threads.Slot.TheVariants as V
 use Rattle.machine.specs.Values.{is_null, holds_number, is_reference, given}
 use Rattle.machine.specs.declared.threads.Frame.{Frame}
 use Rattle.machine.specs.declared.threads.Status.TheVariants.{Halted}
-use Rattle.machine.specs.Ways.{newest, value, go, stopped, framed}
+use Rattle.machine.specs.Ways.{value, go, stopped}
 use Rattle.machine.specs.Steps.{Turn, Does, unless}
 use Rattle.machine.specs.Reading.{slot_has_object, has_field, refers, write}
 use Rattle.safety.specs.Model as C

@@ -7,9 +7,9 @@ use Rattle.table.specs.Program.{Program}
 use Rattle.table.specs.Types.{is_number, is_owned, is_spec}
 use Rattle.table.specs.declared.records.Test.{Test}
 use Rattle.table.specs.declared.records.Test.TheVariants.{Nil, Same, Equal, Less, Link, Unlink, Swap, Try, Fix, Stable}
-use Rattle.table.specs.Records.{Null, Ask}
+use Rattle.table.specs.Records.{Ask}
 use Rattle.table.specs.declared.types.Mode.TheVariants.{Val}
-use Rattle.rules.specs.Rules.{first, callee, slot, with, has, asks}
+use Rattle.rules.specs.Rules.{first, callee, slot, with, asks}
 use Rattle.rules.specs.Scopes.{shape}
 use Rattle.rules.specs.Laws.{Holds}
 use Rattle.memory.specs.Model.{Store, cell_at}

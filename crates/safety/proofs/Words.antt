@@ -3,7 +3,6 @@ use Rattle.std.proofs.Common.{◌≡◌, ℕ, zero, suc, ◌+◌, ◌-◌, ◌%�
 use mathlib.Core.Path.{subst⁻¹}
 use Rattle.std.proofs.lemmas.List.{length-set, length_push}
 use Rattle.std.proofs.lemmas.Bool.{ltb-true, lt-ltb, leb-true, and_parts, and_from, cond_both}
-use Rattle.table.specs.declared.types.Kind.TheVariants.{Number}
 use Rattle.table.specs.declared.types.Ty.{Ty}
 use Rattle.table.specs.Program.{Program}
 use Rattle.table.specs.Types.{is_number, is_owned, is_pristine}

@@ -1,5 +1,5 @@
 -- Runs of small programs, accepted and not, and what their steps answer.
-use Rattle.std.specs.Prelude.{◌≡◌, ℕ, ◌+◌, ◌^◌, List, [], ◌∷◌, ◌++◌, map, take, replicate, Some, None, Ok, Err, Option, Result}
+use Rattle.std.specs.Prelude.{◌≡◌, ℕ, ◌^◌, List, [], ◌∷◌, ◌++◌, map, take, replicate, Some, None, Ok, Err, Option, Result}
 use Rattle.table.specs.declared.fault.Fault.{Fault}
 use Rattle.table.specs.declared.fault.Place.TheVariants.{Nothing, Record, Thread}
 use Rattle.table.specs.declared.types.Kind.TheVariants.{Alias, Owned}

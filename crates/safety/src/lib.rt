@@ -1,5 +1,6 @@
 // What is promised of every run of an accepted table.
 #![tactic(auto)]
+
 ghost use Rattle.safety.specs.Rehearsals.{Rehearsals};
 ghost use Rattle.safety.specs.Safe.{TableSafe, RunSafe};
 ghost use Rattle.safety.specs.Words.{WordsStand};

@@ -6,7 +6,7 @@ use Rattle.table.specs.declared.types.Ty.{Ty}
 use Rattle.rules.specs.Rules.{number}
 use Rattle.machine.specs.declared.threads.Slot.{Slot}
 use Rattle.machine.specs.declared.threads.Slot.TheVariants.{Empty}
-use Rattle.machine.specs.Values.{given, suits, left, at, all_given, all_suit, leaving, passing}
+use Rattle.machine.specs.Values.{left, at, all_given, all_suit, leaving, passing}
 
 -- a step of any function of the two lists
 pub both_more : {Y : Type 0} (F : List ℕ → List Ty → Y) (xs : List ℕ) (ts : List Ty) (i : ℕ) → i < length xs → i < length ts

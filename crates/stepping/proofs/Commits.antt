@@ -1,6 +1,6 @@
 -- A thread's record written, as the list of threads has it.
-use Rattle.std.proofs.Common.{◌≡◌, ℕ, ◌<◌, Bool, true, false, cond, ltb, List, [], ◌∷◌, ◌++◌, map, length, get_or, take, set, Some, None, Ok, Option, sym, refl, ap, ◌∙◌, arith}
-use Rattle.std.proofs.lemmas.List.{length-take, length-map, length-set, get_or-map, get_or-take, map-set}
+use Rattle.std.proofs.Common.{◌≡◌, ℕ, ◌<◌, ltb, List, [], ◌∷◌, ◌++◌, map, length, get_or, take, set, Some, None, Ok, Option, sym, refl, ap, ◌∙◌, arith}
+use Rattle.std.proofs.lemmas.List.{length-take, length-map, get_or-map, get_or-take, map-set}
 use Rattle.std.proofs.lemmas.Bool.{cond-true, lt-ltb}
 use Rattle.machine.specs.declared.threads.Frame.{Frame}
 use Rattle.machine.specs.declared.threads.Thread.{Thread}
@@ -12,7 +12,7 @@ use Rattle.stepping.specs.declared.calls.Passed.{Passed}
 use Rattle.stepping.specs.declared.turning.Outcome.{Outcome}
 use Rattle.stepping.specs.declared.turning.Outcome.TheVariants.{Goes, Calls, Forks, Resumes, Ends}
 use Rattle.stepping.specs.Turns.{FitsIn}
-use Rattle.stepping.specs.Committing.{task_after, forked_by, tasks_after}
+use Rattle.stepping.specs.Committing.{task_after, forked_by}
 
 module _ (ths : List Thread) (c i : ℕ) (d : Thread) (l : i < length (map task_of (take c ths))) where
   abbrev tasks : List Task

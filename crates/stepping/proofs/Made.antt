@@ -1,5 +1,5 @@
 -- What the code makes of a record is the turn of its thread.
-use Rattle.std.proofs.Common.{◌≡◌, ℕ, zero, suc, ◌-◌, ◌<◌, ◌≤◌, Bool, true, false, cond, ◌&&◌, ltb, List, [], ◌∷◌, ◌++◌, length, get_or, take, set, Some, None, Ok, Err, Option, Result, sym, refl, ap, ◌∙◌, arith}
+use Rattle.std.proofs.Common.{◌≡◌, ℕ, zero, suc, ◌-◌, ◌≤◌, Bool, true, false, cond, ◌&&◌, ltb, List, [], ◌∷◌, ◌++◌, length, take, set, Some, None, Ok, Err, Option, Result, sym, refl, ap, ◌∙◌, arith}
 use Rattle.std.proofs.lemmas.List.{set-get_or}
 use Rattle.std.proofs.lemmas.Bool.{ltb-false}
 use Rattle.table.specs.Records.{Op, New, Null, Int, Share, Own, Get, Take, Set, Add, Call, Fork, Return, Again, Join, Emit, Ask}
@@ -11,11 +11,10 @@ use Rattle.machine.specs.declared.threads.Status.{Status}
 use Rattle.machine.specs.declared.threads.Status.TheVariants.{Running, Ended, Halted}
 use Rattle.machine.specs.Values.{at, given, suits}
 use Rattle.machine.specs.World.{no_frame, op_at}
-use Rattle.machine.specs.Ways.{Change, Way, Limit, newest, waiting, stopped, way, returned, is_call, is_slot, call_slot}
+use Rattle.machine.specs.Ways.{Change, Way, newest, waiting, stopped, way, returned, is_call, is_slot, call_slot}
 use Rattle.machine.specs.Tests.{trial}
 use Rattle.machine.specs.Steps.{Turn, Fails, Does, unless, by_way, room_for}
-use Rattle.stepping.specs.declared.turning.Outcome.{Outcome}
-use Rattle.stepping.specs.declared.turning.Outcome.TheVariants.{Goes, Calls, Forks, Resumes, Ends}
+use Rattle.stepping.specs.declared.turning.Outcome.TheVariants.{Goes}
 use Rattle.machine.specs.Alone.{alone, done_of, memory_after}
 use Rattle.stepping.specs.Calling.{granted, handed, forking, handing, ending, resuming, resumed, returning}
 use Rattle.stepping.proofs.Turned.{leaves_memory}

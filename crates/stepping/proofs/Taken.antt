@@ -1,9 +1,8 @@
 -- A step, from the turn of its thread and from its commit.
-use Rattle.std.proofs.Common.{◌≡◌, ℕ, ◌-◌, ◌<◌, ◌≤◌, Bool, true, false, cond, ltb, List, [], ◌∷◌, ◌++◌, length, get_or, Some, None, Ok, Err, Option, Result, sym, refl, ap, ◌∙◌, subst, inl, inr, arith}
+use Rattle.std.proofs.Common.{◌≡◌, ℕ, ◌-◌, ◌<◌, ◌≤◌, true, false, ltb, List, [], ◌∷◌, ◌++◌, length, get_or, Some, None, Ok, Err, Option, Result, sym, refl, ap, ◌∙◌, inl, inr, arith}
 use Rattle.std.proofs.lemmas.List.{get_or_past}
 use Rattle.std.proofs.lemmas.Bool.{cases_lt, cond-true, lt-ltb}
 use Rattle.list.specs.Held.{pushed}
-use Rattle.table.specs.declared.fault.Fault.{Fault}
 use Rattle.table.specs.Program.{Program}
 use Rattle.memory.specs.Model.{Store}
 use Rattle.machine.specs.declared.threads.Frame.{Frame}
@@ -11,11 +10,11 @@ use Rattle.machine.specs.declared.threads.Status.{Status}
 use Rattle.machine.specs.declared.threads.Status.TheVariants.{Running, Ended, Halted}
 use Rattle.machine.specs.World.{Task, World, task, no_task, is_running}
 use Rattle.machine.specs.Ways.{standing}
-use Rattle.machine.specs.Steps.{Turn, Taken, commit, taking, step_fault, stepped, after_step, put_out}
+use Rattle.machine.specs.Steps.{commit, taking, step_fault, stepped}
 use Rattle.stepping.specs.declared.turning.Outcome.{Outcome}
 use Rattle.stepping.specs.declared.turning.Outcome.TheVariants.{Goes, Calls, Forks, Resumes, Ends}
 use Rattle.stepping.specs.Turns.{made, Listed, FitsIn}
-use Rattle.stepping.specs.Committing.{tasks_after, out_of, listed}
+use Rattle.stepping.specs.Committing.{tasks_after, out_of}
 
 -- a thread that runs is there
 pub runs_there : (ts : List Task) (i : ℕ) → is_running (get_or ts i no_task).status ≡ true → i < length ts

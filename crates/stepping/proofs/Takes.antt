@@ -1,17 +1,16 @@
 -- The code's turn of a thread, from the frames that it finds.
-use Rattle.std.proofs.Common.{◌≡◌, ℕ, ◌-◌, ◌<◌, Bool, true, false, cond, ltb, List, [], ◌∷◌, ◌++◌, length, get_or, Some, None, Ok, Err, Option, Result, sym, refl, ap, ◌∙◌, subst, arith}
+use Rattle.std.proofs.Common.{◌≡◌, ℕ, Bool, true, false, cond, ltb, List, [], ◌∷◌, ◌++◌, length, Some, None, Ok, Err, Option, Result, sym, refl, ap, ◌∙◌, subst, arith}
 use Rattle.std.proofs.lemmas.Bool.{ltb-true}
 use Rattle.table.specs.Records.{Op, New, Null, Int, Share, Own, Get, Take, Set, Add, Call, Fork, Return, Again, Join, Emit, Ask}
 use Rattle.table.specs.Program.{Program}
 use Rattle.rules.specs.Rules.{Premise, first}
 use Rattle.memory.specs.Model.{Store}
 use Rattle.machine.specs.declared.threads.Frame.{Frame}
-use Rattle.machine.specs.World.{no_frame, op_at}
+use Rattle.machine.specs.World.{op_at}
 use Rattle.machine.specs.Ways.{Way, newest, standing, stopped, way}
 use Rattle.machine.specs.declared.threads.Status.TheVariants.{Halted}
 use Rattle.machine.specs.Steps.{Turn, Fails, Does, unless, room_for, by_way, taking}
 use Rattle.machine.specs.Stacks.{below}
-use Rattle.stepping.specs.declared.calls.Passed.{Passed}
 use Rattle.stepping.specs.declared.turning.Outcome.{Outcome}
 use Rattle.machine.specs.Alone.{alone, done_of, memory_after}
 use Rattle.stepping.specs.Calling.{granted, handing, handed, forking, returning}

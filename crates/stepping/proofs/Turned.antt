@@ -7,12 +7,12 @@ use Rattle.memory.specs.Model.{Store}
 use Rattle.machine.specs.declared.threads.Frame.{Frame}
 use Rattle.machine.specs.declared.threads.Status.TheVariants.{Halted}
 use Rattle.machine.specs.declared.frames.Done.{Done}
-use Rattle.machine.specs.Ways.{Change, Way, stopped, way}
-use Rattle.machine.specs.Steps.{Turn, Fails, Does, unless, by_way, room_for}
+use Rattle.machine.specs.Ways.{Way, stopped, way}
+use Rattle.machine.specs.Steps.{Does, unless, by_way, room_for}
 use Rattle.stepping.specs.declared.turning.Outcome.{Outcome}
 use Rattle.stepping.specs.declared.turning.Turning.{Turning}
 use Rattle.machine.specs.Alone.{alone, done_of, memory_after}
-use Rattle.stepping.specs.Turns.{going, within, acted}
+use Rattle.stepping.specs.Turns.{going, acted}
 
 -- a record that leaves the memory as it was, whatever comes of it
 pub leaves_memory : (p : Program) (m : Store) (fs : List Frame) (threads room : ℕ) (w : Way) → w.change.memory ≡ m → m ≡ memory_after m (by_way p m fs threads room w)

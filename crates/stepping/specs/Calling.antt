@@ -1,10 +1,9 @@
 -- Calls, forks, `again` and returns: what they ask, and the frames that they leave.
-use Rattle.std.specs.Prelude.{ℕ, suc, ◌<◌, Bool, cond, ◌&&◌, List, [], ◌∷◌, length, Some, None, Ok, Err, Option, Result, slice_set}
+use Rattle.std.specs.Prelude.{ℕ, suc, ◌<◌, Bool, cond, ◌&&◌, List, [], ◌∷◌, Some, None, Ok, Err, Option, Result, slice_set}
 use Rattle.table.specs.declared.types.Ty.{Ty}
 use Rattle.table.specs.declared.records.Record.{Record}
 use Rattle.table.specs.Program.{Program}
 use Rattle.rules.specs.Rules.{Premise, callee}
-use Rattle.machine.specs.declared.threads.Slot.{Slot}
 use Rattle.machine.specs.declared.threads.Frame.{Frame}
 use Rattle.machine.specs.Values.{at, given, suits, all_given, all_suit, leaving, passing}
 use Rattle.machine.specs.World.{op_at}

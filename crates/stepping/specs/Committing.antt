@@ -1,15 +1,12 @@
 -- A turn put into the machine, and a step of it.
-use Rattle.std.specs.Prelude.{ℕ, ◌-◌, cond, List, [], ◌∷◌, ◌++◌, length, Some, None, Ok, Err, Option, Result, slice_index_or, slice_set}
+use Rattle.std.specs.Prelude.{ℕ, List, [], ◌∷◌, ◌++◌, Some, None, Ok, Err, Option, Result, slice_index_or, slice_set}
 use Rattle.table.specs.declared.fault.Fault.{Fault}
 use Rattle.table.specs.Faults.{Passes}
-use Rattle.table.specs.Program.{Program}
-use Rattle.memory.specs.Model.{Store}
 use Rattle.machine.specs.declared.threads.Frame.{Frame}
-use Rattle.machine.specs.declared.threads.Machine.{Machine}
 use Rattle.machine.specs.declared.threads.Status.TheVariants.{Running, Ended}
-use Rattle.machine.specs.World.{Task, World, world_of, no_task}
+use Rattle.machine.specs.World.{Task, no_task}
 use Rattle.machine.specs.Stacks.{with_newest, returned_to}
-use Rattle.machine.specs.Steps.{Taken, joined, stepped, after_step, put_out}
+use Rattle.machine.specs.Steps.{Taken, joined}
 use Rattle.stepping.specs.declared.turning.Outcome.{Outcome}
 use Rattle.stepping.specs.declared.turning.Outcome.TheVariants.{Goes, Calls, Forks, Resumes, Ends}
 

@@ -10,7 +10,7 @@ use Rattle.machine.specs.Steps.{Turn, Fails, Does}
 use Rattle.stepping.specs.declared.calls.Passed.{Passed}
 use Rattle.stepping.specs.declared.turning.Outcome.{Outcome}
 use Rattle.stepping.specs.declared.turning.Outcome.TheVariants.{Goes, Calls, Forks, Resumes, Ends}
-use Rattle.machine.specs.Alone.{alone, done_of, memory_after}
+use Rattle.machine.specs.Alone.{alone, done_of}
 use Rattle.stepping.specs.Calling.{granted, handed, forking, handing, returning}
 
 abbrev pub going : Result Done ℕ → Result Outcome ℕ

@@ -1,5 +1,6 @@
 // Steps of a table's threads over any memory.
 #![tactic(auto)]
+
 mod calls;
 mod clashing;
 mod committing;

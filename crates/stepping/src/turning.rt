@@ -8,13 +8,13 @@ ghost use Rattle.machine.specs.Ways.{standing};
 ghost use Rattle.machine.specs.Steps.{taking};
 ghost use Rattle.stepping.specs.Turns.{going, calling, forked, leading, acted, made, FitsIn};
 
-use machine::asking::ask;
+use super::calls;
 use super::calls::Passed;
 use super::standing::op_at;
-use super::calls;
-use machine::{fields, plain};
+use machine::asking::ask;
 use machine::frames::Done;
 use machine::threads::{Frame, Thread};
+use machine::{fields, plain};
 use memory::keeping::Memory;
 use table::Table;
 use table::records::Record;

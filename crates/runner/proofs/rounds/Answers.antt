@@ -1,8 +1,7 @@
 use Rattle.std.proofs.Common.{◌≡◌, ℕ, ◌+◌, ◌-◌, ◌<◌, ◌≤◌, [], sym, refl, ap, ◌∙◌, arith, w64, Fits, rules}
 use Rattle.list.specs.Held.{room}
 use Rattle.table.specs.Reading.{program_of}
-use Rattle.machine.specs.World.{world_of}
-use Rattle.safety.specs.Runs.{Ran, Counted, ran_within, all_threads, rounds}
+use Rattle.safety.specs.Runs.{Counted, ran_within, all_threads, rounds}
 use Rattle.safety.proofs.Tables.{stays_safe, stays_safe_both, within_most}
 use Rattle.runner.specs.Runners.{found}
 use Rattle.runner.proofs.Going.{rounds_spent, rounds_end, rounds_more}

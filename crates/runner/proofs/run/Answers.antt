@@ -2,7 +2,7 @@ use Rattle.std.proofs.Common.{◌≡◌, ℕ, ◌-◌, ◌≤◌, List, length, 
 use Rattle.list.specs.Held.{held, room}
 use Rattle.table.specs.Reading.{program_of}
 use Rattle.table.specs.Program.{Program}
-use Rattle.machine.specs.World.{World, world_of}
+use Rattle.machine.specs.World.{world_of}
 use Rattle.machine.specs.Steps.{stepped}
 use Rattle.safety.specs.Runs.{Ran, Counted, took, ran_within, ran}
 use Rattle.safety.specs.Safe.{StaysSafe}

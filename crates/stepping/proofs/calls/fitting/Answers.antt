@@ -1,9 +1,9 @@
-use Rattle.std.proofs.Common.{◌≡◌, ◌+◌, ◌<◌, ◌≤◌, Bool, ◌&&◌, ◌⊎◌, length, get_or, drop, sym, refl, ap, ◌∙◌, inl, inr, arith}
+use Rattle.std.proofs.Common.{◌≡◌, ◌+◌, Bool, ◌&&◌, get_or, drop, sym, refl, ap, ◌∙◌}
 use Rattle.table.specs.declared.types.Ty.{Ty}
 use Rattle.table.specs.Reading.{program_of}
 use Rattle.rules.specs.Rules.{callee, number}
 use Rattle.machine.specs.declared.threads.Slot.{Slot}
-use Rattle.machine.specs.Values.{suits, at, all_given, all_suit}
+use Rattle.machine.specs.Values.{suits, all_given, all_suit}
 use Rattle.stepping.specs.declared.calls.Fit.{Fit}
 use Rattle.stepping.proofs.Arguments.{tests_more, tests_end, none_given, none_suit, within_both, past_one}
 use Rattle.stepping.proofs.calls.fitting.Goals as goal

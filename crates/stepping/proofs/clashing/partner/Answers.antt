@@ -1,4 +1,4 @@
-use Rattle.std.proofs.Common.{◌≡◌, suc, map, drop, sym, ap, ◌∙◌, add-one}
+use Rattle.std.proofs.Common.{suc, map, drop, sym, ap, ◌∙◌, add-one}
 use Rattle.table.specs.Reading.{program_of}
 use Rattle.machine.specs.World.{task_of}
 use Rattle.machine.specs.Clashes.{partner}

@@ -1,4 +1,4 @@
-use Rattle.std.proofs.Common.{◌≡◌, ◌<◌, [], length, get_or, set, Some, Ok, sym, ap, ◌∙◌, subst, arith}
+use Rattle.std.proofs.Common.{◌≡◌, ◌<◌, [], length, get_or, set, Ok, sym, ap, ◌∙◌, subst, arith}
 use Rattle.std.proofs.lemmas.List.{length-set}
 use Rattle.machine.specs.declared.threads.Thread.{Thread}
 use Rattle.machine.specs.declared.threads.Status.TheVariants.{Running}
@@ -6,9 +6,8 @@ use Rattle.machine.specs.World.{no_task}
 use Rattle.machine.specs.Stacks.{tasks_of}
 use Rattle.machine.specs.Steps.{joined}
 use Rattle.stepping.specs.declared.turning.Outcome.{Outcome}
-use Rattle.stepping.specs.declared.turning.Outcome.TheVariants.{Forks}
 use Rattle.stepping.specs.Turns.{FitsIn}
-use Rattle.stepping.specs.Committing.{task_after, forked_by, tasks_after}
+use Rattle.stepping.specs.Committing.{task_after, forked_by}
 use Rattle.stepping.proofs.Commits.{task_settled, fits_thread, forks_none, joins_none, joins_more}
 use Rattle.stepping.proofs.committing.commit.Goals as goal
 

@@ -1,8 +1,8 @@
-use Rattle.std.proofs.Common.{◌≡◌, ◌<◌, ◌≤◌, length, Ok, Err, sym, ap, ◌∙◌, arith}
+use Rattle.std.proofs.Common.{◌<◌, length, Ok, Err, arith}
 use Rattle.table.specs.Records.{meant}
 use Rattle.table.specs.Reading.{program_of}
 use Rattle.rules.specs.Rules.{callee}
-use Rattle.stepping.proofs.Records.{op_found, op_past}
+use Rattle.stepping.proofs.Records.{op_found}
 use Rattle.stepping.proofs.standing.op_at.Goals as goal
 
 pub returns-in-Ok : goal.returns-in-Ok

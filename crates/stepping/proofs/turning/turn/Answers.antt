@@ -1,9 +1,9 @@
-use Rattle.std.proofs.Common.{ℕ, ◌<◌, length, Some, None, Err, Result, sym, refl, ◌∙◌, subst, arith}
+use Rattle.std.proofs.Common.{ℕ, Result, sym, refl, ◌∙◌, subst}
 use Rattle.table.specs.Records.{meant}
 use Rattle.table.specs.Reading.{program_of}
 use Rattle.machine.specs.Stacks.{frames_of}
 use Rattle.stepping.specs.declared.turning.Outcome.{Outcome}
-use Rattle.stepping.specs.Turns.{acted, FitsIn}
+use Rattle.stepping.specs.Turns.{FitsIn}
 use Rattle.stepping.proofs.Takes.{stands-nowhere, stands_at, takes_nothing, takes, acted_fits, acted_kept}
 use Rattle.stepping.proofs.turning.turn.Goals as goal
 
