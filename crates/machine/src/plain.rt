@@ -87,13 +87,7 @@ pub fn emit(frame: Frame, x: u8, room: usize) -> Result<Done, u8>
     Ok(done)
 }
 
-pub fn new<M: Memory>(
-    table: &Table,
-    memory: &mut M,
-    frame: Frame,
-    z: u8,
-    s: u8,
-) -> Result<Done, u8>
+pub fn new<M: Memory>(table: &Table, memory: &mut M, frame: Frame, z: u8, s: u8) -> Result<Done, u8>
     requires { frame.index < 2 ^ 32 }
     ensures value { (room : ℕ) → result ≡ done_of (alone (program_of table.now) (M.Memory.model memory.old) frame room (New z s)) }
     ensures after { (room : ℕ) → M.Memory.model memory.new ≡ memory_after (M.Memory.model memory.old) (alone (program_of table.now) (M.Memory.model memory.old) frame room (New z s)) }

@@ -1,5 +1,6 @@
 // A start, clashes and owners, on machines that are written out.
 #![tactic(auto)]
+
 ghost use Rattle.std.specs.Prelude.{◌≡◌, replicate, slice_set};
 ghost use Rattle.machine.specs.declared.threads.Slot.TheVariants.{Empty, Reference};
 ghost use Rattle.machine.specs.declared.threads.Status.TheVariants.{Running};

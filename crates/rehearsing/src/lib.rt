@@ -1,5 +1,6 @@
 // The result of rehearsing a table, as a value whose `Display` is what is printed.
 #![tactic(auto)]
+
 ghost use Rattle.std.specs.Prelude.{◌≡◌, ◌≤◌, length};
 ghost use Rattle.list.specs.Held.{held};
 ghost use Rattle.table.specs.Faults.{◌>>=◌};

@@ -1,5 +1,6 @@
 // The result of rehearsing a table, as a value whose `Display` is what is printed.
 #![tactic(auto)]
+
 ghost use Rattle.std.specs.Prelude.{◌≡◌, Some};
 ghost use Rattle.rules.specs.Scopes.{judged};
 ghost use Rattle.report.specs.Reports.{reported, report_text};

@@ -1,5 +1,6 @@
 // Reads a table from the standard input, and prints what came of it.
 #![tactic(auto)]
+
 use report::rehearse;
 use std::io;
 use std::io::Read;

@@ -1,5 +1,6 @@
 // One table for each refusal of the rules, and two that are accepted.
 #![tactic(auto)]
+
 use rules::check;
 use table::types::{Kind, Ty};
 use table::{Fault, Place, open};

@@ -1,5 +1,6 @@
 // Rehearses each table of a list: a name, a space and the table's bytes in hexadecimal to a line.
 #![tactic(auto)]
+
 use anyhow::anyhow;
 use report::rehearse;
 use std::alloc::Global;
