@@ -43,17 +43,21 @@ pub data Told : Type 0 where
 abbrev pub told : Counted → Told
 told c = Ran c.ran.out (tallied c.ran.world.tasks c.taken)
 
--- from the start, all threads in turn: at most 10,000 steps, with a list of 256 numbers
-abbrev pub rehearsed : Program → Store → Result Told Fault
-rehearsed p m = started m >>= λ W. Ok (told (rounds 10000 p 256 10000 (record { world = W; out = [] })))
+-- from the start, all threads in turn: at most so many steps, with a list of 256 numbers
+abbrev pub rehearsed : ℕ → Program → Store → Result Told Fault
+rehearsed limit p m = started m >>= λ W. Ok (told (rounds limit p 256 limit (record { world = W; out = [] })))
 
 abbrev pub told_by : Result Told Fault → Told
 told_by (Ok t) = t
 told_by (Err e) = Refused e
 
--- the first refusal of the bytes, or of the rules, or of the start; or what came of running the table over this memory
+-- refused by the bytes, by the rules, or where the memory has objects; unfolded by name alone, since rounds of a numeral unfold that often
+unfoldable pub run_over : ℕ → Store → List ℕ → Result Told Fault
+run_over limit m b = program b >>= λ p. verdict p >>= λ _. rehearsed limit p m
+
+-- the first refusal of the bytes, or of the rules, or of the start; or what came of running the table over this memory for at most 10,000 steps
 abbrev pub reported_on : Store → List ℕ → Told
-reported_on m b = told_by (program b >>= λ p. verdict p >>= λ _. rehearsed p m)
+reported_on m b = told_by (run_over 10000 m b)
 
 -- over an empty memory of 64 objects
 abbrev pub reported : List ℕ → Told

@@ -3,10 +3,7 @@
 
 ghost use Rattle.std.specs.Prelude.{◌≡◌, ◌≤◌, length};
 ghost use Rattle.list.specs.Held.{held};
-ghost use Rattle.table.specs.Faults.{◌>>=◌};
-ghost use Rattle.table.specs.Program.{program};
-ghost use Rattle.rules.specs.Scopes.{verdict};
-ghost use Rattle.rehearsing.specs.Reports.{numbers_of, rehearsed, reported, reported_on, meant, ran_by};
+ghost use Rattle.rehearsing.specs.Reports.{numbers_of, run_over, reported, reported_on, meant, ran_by};
 
 use list::Bounded;
 use memory::keeping::Memory;
@@ -44,14 +41,13 @@ const OBJECT: Object = Object {
 
 // The numbers of a list, in an array of their own.
 fn copied(out: &Bounded<'_, u32>, tally: Tally) -> Rehearsal
-    ensures { ((length (held out.now) ≤ 256 → numbers_of result ≡ held out.now)) × (result.tally ≡ tally) }
+    ensures numbers { length (held out.now) ≤ 256 → numbers_of result ≡ held out.now }
+    ensures tally { result.tally ≡ tally }
 {
     let mut numbers = [0; 256];
     let all = out.all();
     let count = all.len().min(256);
-    for i in 0..count {
-        numbers[i] = all[i];
-    }
+    numbers[..count].copy_from_slice(&all[..count]);
     Rehearsal {
         numbers,
         count,
@@ -59,9 +55,10 @@ fn copied(out: &Bounded<'_, u32>, tally: Tally) -> Rehearsal
     }
 }
 
-// Runs a table that the rules accept, over a memory; refused by the bytes, by the rules, or where the memory has objects.
-fn run_whole<M: Memory>(bytes: &[u8], memory: &mut M) -> Result<Rehearsal, Fault>
-    ensures { ran_by result ≡ (program bytes.now >>= λ p. verdict p >>= λ _. rehearsed p (M.Memory.model memory.old)) }
+// Runs a table that the rules accept, over a memory, for at most `limit` steps; refused by the bytes, by the rules, or where the memory has objects.
+#[tactic(auto, unfolding(crate::specs::Reports::run_over))]
+fn run_whole<M: Memory>(bytes: &[u8], memory: &mut M, limit: usize) -> Result<Rehearsal, Fault>
+    ensures { ran_by result ≡ run_over limit (M.Memory.model memory.old) bytes.now }
 {
     let table = open(bytes)?;
     let mut scratch = [NUMBER; 128];
@@ -69,7 +66,7 @@ fn run_whole<M: Memory>(bytes: &[u8], memory: &mut M) -> Result<Rehearsal, Fault
     let mut machine = start(memory)?;
     let mut numbers = [0; 256];
     let mut out = Bounded::new(&mut numbers);
-    let steps = rounds(&table, &mut machine, memory, &mut out, STEPS);
+    let steps = rounds(&table, &mut machine, memory, &mut out, limit);
     Ok(copied(&out, Tally::of(&machine, steps)))
 }
 
@@ -77,7 +74,7 @@ fn run_whole<M: Memory>(bytes: &[u8], memory: &mut M) -> Result<Rehearsal, Fault
 pub fn rehearse_over<M: Memory>(bytes: &[u8], memory: &mut M) -> Report
     ensures { meant result ≡ reported_on (M.Memory.model memory.old) bytes.now }
 {
-    match run_whole(bytes, memory) {
+    match run_whole(bytes, memory, STEPS) {
         Ok(ran) => Report::Ran(ran),
         Err(fault) => Report::Refused(fault),
     }

@@ -1,5 +1,5 @@
-use Rattle.std.proofs.Common.{◌≡◌, true, [], ◌++◌, get_or, take, is_ok, codes, decimal, sym, refl, ap, ◌∙◌, rules}
-use Rattle.std.specs.Fmt.{WritesOnOk, HasWritten}
+use Rattle.std.proofs.Common.{◌++◌, get_or, take, is_ok, codes, decimal, ap, rules}
+use Rattle.std.specs.Fmt.{WritesOnOk}
 use Rattle.std.proofs.lemmas.List.{take_all}
 use Rattle.std.proofs.Output.{writes_in_calls_nil, has_written_append, has_written_of_eq}
 use Rattle.rehearsing.specs.Reports.{lines}

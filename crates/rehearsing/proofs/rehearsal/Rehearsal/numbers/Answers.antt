@@ -1,4 +1,4 @@
-use Rattle.std.proofs.Common.{◌≡◌, sym, ◌∙◌}
+use Rattle.std.proofs.Common.{sym, ◌∙◌}
 use Rattle.std.proofs.lemmas.List.{length-take}
 use Rattle.machine.proofs.Counts.{front_is}
 use Rattle.rehearsing.proofs.rehearsal.Rehearsal.numbers.Goals as goal
