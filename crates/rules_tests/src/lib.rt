@@ -21,7 +21,6 @@ pub fn judge(bytes: &[u8], scratch: &mut [Ty]) -> Result<(), Fault> {
 #[cfg(test)]
 mod tests {
     use super::*;
-    use std::process::Abort;
 
     const NO_SUCH_OP: &[u8; 50] = b"\
         \x01\x01\x01\x00\x0c\x00\x15\x00\x21\x00\x11\x00\x04\x00\x00\x00\x00\x00\x03\x02\x00\x00\x00\x01\
@@ -112,22 +111,26 @@ mod tests {
         assert_eq!(rt; judge(SEVEN, &mut scratch), Err(refusal));
     }
 
-    fn refused(rt: &impl Abort, bytes: &[u8], number: u8, index: usize) {
+    fn verdict(bytes: &[u8]) -> Result<(), Fault> {
         let mut scratch = [NUMBER; 128];
-        let place = Place::Record { function: 0, index };
-        assert_eq!(rt; judge(bytes, &mut scratch), Err(Fault::new(number, place)));
+        judge(bytes, &mut scratch)
+    }
+
+    // A refusal that names a record of function 0.
+    fn refused(number: u8, index: usize) -> Result<(), Fault> {
+        Err(Fault::new(number, Place::Record { function: 0, index }))
     }
 
     #[test]
     fn each_number(rt: HostRuntime) {
-        refused(&rt, NO_SUCH_OP, 20, 0);
-        refused(&rt, SLOT_BYTE, 21, 0);
-        refused(&rt, NOT_IN_SCOPE, 22, 0);
-        refused(&rt, NO_SUCH_STRUCT, 23, 0);
-        refused(&rt, SHARE_OF_PRISTINE, 24, 1);
-        refused(&rt, NO_SUCH_FIELD, 25, 1);
-        refused(&rt, VAR_BY_ALIAS, 26, 3);
-        refused(&rt, PRISTINE_RETURNED, 27, 1);
-        refused(&rt, BODY_GOES_ON, 28, 1);
+        assert_eq!(rt; verdict(NO_SUCH_OP), refused(20, 0));
+        assert_eq!(rt; verdict(SLOT_BYTE), refused(21, 0));
+        assert_eq!(rt; verdict(NOT_IN_SCOPE), refused(22, 0));
+        assert_eq!(rt; verdict(NO_SUCH_STRUCT), refused(23, 0));
+        assert_eq!(rt; verdict(SHARE_OF_PRISTINE), refused(24, 1));
+        assert_eq!(rt; verdict(NO_SUCH_FIELD), refused(25, 1));
+        assert_eq!(rt; verdict(VAR_BY_ALIAS), refused(26, 3));
+        assert_eq!(rt; verdict(PRISTINE_RETURNED), refused(27, 1));
+        assert_eq!(rt; verdict(BODY_GOES_ON), refused(28, 1));
     }
 }
