@@ -1,8 +1,12 @@
 -- What calls keep: one call, and then a list of them.
-use Rattle.std.proofs.Common.{◌≡◌, ℕ, zero, suc, ◌+◌, ◌-◌, ◌^◌, ◌<◌, ◌≤◌, Bool, true, false, not, ◌&&◌, eqb, ltb, leb, List, [], ◌∷◌, ◌++◌, length, get_or, take, set, replicate, sym, refl, ap, ◌∙◌, ⊎_elim, arith, length-set}
+use Rattle.std.proofs.Common.{◌≡◌, ℕ, suc, ◌+◌, ◌-◌, ◌^◌, ◌<◌, ◌≤◌, Bool, true, false, not, ◌&&◌, eqb, ltb, leb, List, [], ◌∷◌, ◌++◌, length, get_or, take, set, sym, refl, ap, ◌∙◌, ⊎_elim, arith, length-set}
 use lib.ListN.{get_or-map}
-use Rattle.std.proofs.lemmas.List.{map-append, map-set, set-get_or, length-map, length-append, append_assoc, append-nil, get_or_append_left, get_or-append_right, get_or_past, get_or-replicate, get_or-set_same, get_or-set_other, set_past}
-use Rattle.std.proofs.lemmas.Bool.{leb-true, ltb-true, ltb-false, eqb-true, eq-eqb, cases_eq, cases_lt, and_parts, and_from, or_parts, both_ways}
+use lib.Seq.{take-nil}
+use Rattle.std.proofs.lemmas.List.{map-append, map-set, set-get_or, length-map, length-append, append_assoc, append-nil, get_or_append_left, get_or_past, get_or-set_same, get_or-set_other, set_past}
+use Rattle.std.proofs.lemmas.Bool.{leb-true, ltb-true, ltb-false, eqb-true, cases_eq, cases_lt, and_parts, or_parts, both_ways}
+use Rattle.std.proofs.lemmas.Bool.Decides.{nat_tests}
+use Rattle.std.proofs.lemmas.Grind.{common_steps}
+use Rattle.std.proofs.lemmas.List.{get_or_push}
 use Rattle.memory.specs.declared.object.Cell.{Cell}
 use Rattle.memory.specs.declared.object.Object.{Object}
 use Rattle.memory.specs.declared.replay.Call.{Call}
@@ -88,37 +92,16 @@ abbrev cell_of : ℕ → Object → Cell
 cell_of c x = get_or x.cells c (plain 0)
 
 cell_with_other : (m : Store) (p d : ℕ) (v : Cell) (o c : ℕ) → (eqb o p && eqb c d) ≡ false → cell_at (with_cell m p d v) o c ≡ cell_at m o c
-cell_with_other m p d v o c h =
-    let y : Object = record { kind = (object_at m p).kind; cells = set (object_at m p).cells d v } in
-    ⊎_elim
-    (λ same.
-    let ne : c ≡ d → ⊥ = λ f. both_ways (eqb o p && eqb c d) h (and_from (eqb o p) (eqb c d) (eq-eqb o p same) (eq-eqb c d f)) in
-    ⊎_elim
-    (λ lt. rw same (ap (cell_of c) (get_or-set_same m.objects p y none lt) ∙ get_or-set_other (object_at m p).cells d c v (plain 0) ne))
-    (λ past. ap (λ (xs : List Object). cell_of c (get_or xs o none)) (set_past m.objects p y past))
-    (cases_lt p (count_of m)))
-    (λ other. ap (cell_of c) (get_or-set_other m.objects p o y none other))
-    (cases_eq o p)
+cell_with_other m p d v o c h = grind (arith, common_steps, nat_tests)
 
 fresh_cell : (k c : ℕ) → cell_of c (fresh k) ≡ plain 0
-fresh_cell k c = ⊎_elim (λ lt. get_or-replicate 8 c (plain 0) (plain 0) lt) (λ ge. get_or_past (replicate 8 (plain 0)) c (plain 0) ge) (cases_lt c 8)
+fresh_cell k c = grind (arith, common_steps)
 
 object_new : (m : Store) (k : ℕ) → object_at (with_object m k) (count_of m) ≡ fresh k
-object_new m k =
-    let z : count_of m - count_of m ≡ 0 = omega arith in
-    get_or-append_right m.objects (fresh k ∷ []) (count_of m) (count_of m) none refl (omega arith) ∙ rw z refl
+object_new m k = get_or_push m.objects (fresh k) none (count_of m) refl
 
 cell_grown : (m : Store) (k o c : ℕ) → cell_at (with_object m k) o c ≡ cell_at m o c
-cell_grown m k o c =
-    ⊎_elim
-    (λ lt. ap (cell_of c) (get_or_append_left m.objects (fresh k ∷ []) none o lt))
-    (λ ge.
-    let past : cell_at m o c ≡ plain 0 = ap (cell_of c) (get_or_past m.objects o none ge) in
-    ⊎_elim
-    (λ same. rw same (ap (cell_of c) (object_new m k) ∙ fresh_cell k c) ∙ sym past)
-    (λ (other : o ≡ count_of m → ⊥). ap (cell_of c) (get_or_past (m.objects ++ (fresh k ∷ [])) o none (rw (length-append m.objects (fresh k ∷ [])) (omega arith))) ∙ sym past)
-    (cases_eq o (count_of m)))
-    (cases_lt o (count_of m))
+cell_grown m k o c = grind (arith, get_or_append_left, get_or_push, get_or_past, length-append, fresh_cell)
 
 cell_call : (m : Store) (x : Call) (o c : ℕ) → names o c x ≡ false → cell_at (after_call m x) o c ≡ cell_at m o c
 cell_call m (Add k) o c h = after_add_keeps (λ n. cell_at n o c ≡ cell_at m o c) m k (λ a b. cell_grown m k o c) refl
@@ -161,13 +144,7 @@ cell_whole : (x : Object) (d : ℕ) (v : Cell) → v.word < 2 ^ 31 → Whole x �
 cell_whole x d v h wh = record {
   struct = wh.struct;
   eight = length-set x.cells d v ∙ wh.eight;
-  words = λ c. ⊎_elim
-      (λ lt. ⊎_elim
-      (λ same. let e : get_or (set x.cells d v) c (plain 0) ≡ v = ap (λ (i : ℕ). get_or (set x.cells d v) i (plain 0)) same ∙ get_or-set_same x.cells d v (plain 0) lt in rw e h)
-      (λ other. rw (get_or-set_other x.cells d c v (plain 0) other) (wh.words c))
-      (cases_eq c d))
-      (λ past. rw (set_past x.cells d v past) (wh.words c))
-      (cases_lt d (length x.cells));
+  words = λ c. grind (arith, get_or-set_same, get_or-set_other, set_past, wh.words c);
 }
 
 whole_with : (m : Store) (p d : ℕ) (v : Cell) → v.word < 2 ^ 31 → AllWhole m → AllWhole (with_cell m p d v)
@@ -187,13 +164,9 @@ whole_call m (Add k) all = after_add_keeps AllWhole m k (λ a b. whole_grown m k
 whole_call m (Put o c w) all = after_store_keeps AllWhole m o c w (λ a. whole_with m o c (plain w) a all) all
 whole_call m (Exchange o c e w k) all = after_exchange_keeps AllWhole m o c e w k (λ a b. whole_with m o c (record { word = w; mark = k }) a all) all
 
-take_none : (n : ℕ) → take {A = ℕ} n [] ≡ []
-take_none zero = refl
-take_none (suc n) = refl
-
 -- A list of calls keeps what each of them keeps.
 pub calls_keep : (m : Store) (xs : List Call) → Keeps m (after_calls m xs) xs
-calls_keep m [] = record { room = refl; kinds = rw (take_none (m.capacity - count_of m)) (sym (append-nil (kinds_in m))); cells = λ o c h. refl; marked = λ o c t h. refl; whole = λ all. all }
+calls_keep m [] = record { room = refl; kinds = rw (take-nil (m.capacity - count_of m)) (sym (append-nil (kinds_in m))); cells = λ o c h. refl; marked = λ o c t h. refl; whole = λ all. all }
 calls_keep m (x ∷ xs) =
     let n = after_call m x in
     let rest = calls_keep n xs in

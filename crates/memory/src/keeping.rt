@@ -3,7 +3,7 @@ ghost use Rattle.std.specs.Prelude.{◌≡◌};
 ghost use Rattle.memory.specs.Model.{Store, Sized, there, room_of, count_of, kind_of, add_of, after_add, load_of, store_of, after_store, exchange_of, after_exchange};
 
 use super::object::Cell;
-use table::fault::{Fault, Place, demand};
+use table::fault::{Fault, Place, Refusal, require};
 
 // The most objects that a memory may have room for.
 pub const LIMIT: usize = 1024;
@@ -15,14 +15,17 @@ pub const WORD_END: u32 = 0x8000_0000;
 pub fn present(holds: bool) -> Result<(), Fault>
     ensures { result ≡ there holds }
 {
-    demand(holds, 51, Place::Nothing)
+    require(holds, Refusal::Absent.at(Place::Nothing))
 }
 
 // Whether a memory may be made with this capacity: asked before any is made.
 pub fn allowed(capacity: usize) -> Result<(), Fault>
     ensures { result ≡ room_of capacity }
 {
-    demand(1 <= capacity && capacity <= LIMIT, 52, Place::Nothing)
+    require(
+        (1..=LIMIT).contains(&capacity),
+        Refusal::Capacity.at(Place::Nothing),
+    )
 }
 
 pub trait Memory {

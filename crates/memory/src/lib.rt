@@ -5,5 +5,6 @@ pub mod byte_image;
 pub mod keeping;
 pub mod object;
 pub mod object_table;
+mod records;
 pub mod replay;
 mod words;

@@ -24,25 +24,18 @@ pub fn ask<M: Memory>(memory: &mut M, question: Question) -> Result<(usize, bool
     match question {
         Question::Capacity => Ok((memory.capacity(), false)),
         Question::Count => Ok((memory.count(), false)),
-        Question::Kind(object) => {
-            let kind = memory.kind(object)?;
-            Ok((kind as usize, false))
-        }
+        Question::Kind(object) => Ok((usize::from(memory.kind(object)?), false)),
         Question::Load(object, cell) => {
             let held = memory.load(object, cell)?;
             Ok((held.word as usize, held.mark))
         }
-        Question::Add(kind) => {
-            let number = memory.add(kind)?;
-            Ok((number, false))
-        }
+        Question::Add(kind) => Ok((memory.add(kind)?, false)),
         Question::Store(object, cell, word) => {
             memory.store(object, cell, word)?;
             Ok((0, false))
         }
         Question::Exchange(object, cell, expected, word, mark) => {
-            let yes = memory.exchange(object, cell, expected, word, mark)?;
-            Ok((0, yes))
+            Ok((0, memory.exchange(object, cell, expected, word, mark)?))
         }
     }
 }

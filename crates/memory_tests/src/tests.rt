@@ -42,20 +42,18 @@ const QUESTIONS: [Question; 30] = [
     Question::Count,
 ];
 
-fn object() -> Object {
-    let stale = Cell {
+// What a slice may hold before it is lent.
+const STALE: Object = Object {
+    kind: 7,
+    cells: [Cell {
         word: 9,
         mark: true,
-    };
-    Object {
-        kind: 7,
-        cells: [stale; 8],
-    }
-}
+    }; 8],
+};
 
 #[test]
 fn memories_agree(rt: HostRuntime) -> Result<(), Fail> {
-    let mut objects = [object(); 2];
+    let mut objects = [STALE; 2];
     let mut bytes = [255u8; 80];
     let mut table = ObjectTable::new(&mut objects)?;
     let mut image = ByteImage::new(&mut bytes)?;
@@ -90,7 +88,7 @@ fn replays_agree(rt: HostRuntime) -> Result<(), Fail> {
             mark: true,
         },
     ];
-    let mut objects = [object(); 2];
+    let mut objects = [STALE; 2];
     let mut bytes = [255u8; 80];
     let mut table = ObjectTable::new(&mut objects)?;
     let mut image = ByteImage::new(&mut bytes)?;
@@ -103,7 +101,7 @@ fn replays_agree(rt: HostRuntime) -> Result<(), Fail> {
 
 #[test]
 fn full_memory(rt: HostRuntime) -> Result<(), Fail> {
-    let mut objects = [object(); 2];
+    let mut objects = [STALE; 2];
     let mut table = ObjectTable::new(&mut objects)?;
     assert_eq!(rt; table.add(3), Ok(0));
     assert_eq!(rt; table.add(4), Ok(1));
@@ -141,11 +139,9 @@ fn capacities(rt: HostRuntime) -> Result<(), Fail> {
     assert_eq!(rt; allowed(LIMIT), Ok(()));
     assert_eq!(rt; allowed(LIMIT + 1), refused);
     let mut short = [0u8; 35];
-    match ByteImage::new(&mut short) {
-        Ok(_) => Err(Fail::new("made of 35 bytes")),
-        Err(fault) => {
-            assert_eq!(rt; fault, Fault::new(52, Place::Nothing));
-            Ok(())
-        },
-    }
+    assert_eq!(rt;
+        ByteImage::new(&mut short).err(),
+        Some(Fault::new(52, Place::Nothing))
+    );
+    Ok(())
 }

@@ -1,16 +1,24 @@
 -- Sums over slots, frames and threads, one more at a time, and what is known of each frame.
-use Rattle.std.proofs.Common.{◌≡◌, ℕ, zero, suc, ◌+◌, ◌<◌, ◌≤◌, min, true, false, ◌&&◌, ltb, List, [], ◌∷◌, map, length, get_or, take, drop, Ok, sym, refl, ap, ◌∙◌, ap₂, inl, inr, arith, length-take}
-use Rattle.std.proofs.lemmas.List.{drop_more, get_or-map, length-map, at_drop_more, at_drop_all}
+use Rattle.std.proofs.Common.{◌≡◌, ℕ, zero, suc, ◌+◌, ◌<◌, ◌≤◌, cond, Bool, true, false, ◌&&◌, ◌||◌, ◌==◌, ltb, List, [], ◌∷◌, map, length, get_or, take, Ok, Err, Result, sym, refl, ap, ◌∙◌, ap₂, inl, inr, arith, length-take}
+use Rattle.std.specs.Prelude.{count_by, zip}
+use Rattle.std.specs.List.{list_all}
+use Rattle.std.specs.Result.{result_unwrap_or}
+use Rattle.std.proofs.lemmas.List.{get_or-map, length-map}
+use Rattle.std.proofs.lemmas.List.Sums.{sum_by-cons}
 use Rattle.std.proofs.lemmas.Bool.{and_parts, cases_lt, ltb-true}
+use Rattle.table.specs.declared.fault.Place.{Place}
 use Rattle.table.specs.declared.fault.Place.TheVariants as place
+use Rattle.table.specs.declared.fault.Fault.{Fault}
 use Rattle.table.specs.declared.types.Ty.{Ty}
+use Rattle.table.specs.Types.{is_owned, is_pristine}
 use Rattle.table.specs.Program.{Program}
 use Rattle.table.specs.Faults.{Passes, need}
 use Rattle.table.proofs.Each.{each_need}
-use Rattle.rules.specs.Rules.{number, callee}
+use Rattle.rules.specs.Rules.{callee}
+use Rattle.rules.specs.Before.{Fronts}
 use Rattle.memory.specs.Model.{Store}
 use Rattle.machine.specs.declared.threads.Slot.{Slot}
-use Rattle.machine.specs.declared.threads.Slot.TheVariants.{Empty}
+use Rattle.machine.specs.declared.threads.Slot.TheVariants.{Empty, Null, Number, Reference}
 use Rattle.machine.specs.declared.threads.Frame.{Frame}
 use Rattle.machine.specs.declared.threads.Thread.{Thread}
 use Rattle.machine.specs.declared.threads.Status.TheVariants.{Running}
@@ -28,28 +36,27 @@ moves sum part more left whole h e = omega arith
 pub ends : (sum left whole : ℕ) → sum + left ≡ whole → left ≡ 0 → sum ≡ whole
 ends sum left whole h e = omega arith
 
--- the slots of a frame
-pub slots_more : (ts : List Ty) (vs : List Slot) (i o : ℕ) → i < length ts → i < length vs
-    → slots_owning (drop i ts) (drop i vs) o ≡ owns (get_or ts i number) (get_or vs i Empty) o + slots_owning (drop (i + 1) ts) (drop (i + 1) vs) o
-slots_more ts vs i o h k = ap₂ (λ (x : List Ty) (y : List Slot). slots_owning x y o) (drop_more ts i number h) (drop_more vs i Empty k)
+-- the slots of a frame, counted
+one_owns : (t : Ty) (v : Slot) (o : ℕ) → cond (owns t v o == 1) 1 0 ≡ owns t v o
+one_owns t Empty o = refl
+one_owns t Null o = refl
+one_owns t (Number n) o = refl
+one_owns t (Reference q) o = by ((is_owned t.kind || is_pristine t.kind) && q == o)
+  where
+    by : (b : Bool) → ◌≡◌ {A = ℕ} (cond (cond {A = ℕ} b 1 0 == 1) 1 0) (cond b 1 0)
+    by true = refl
+    by false = refl
 
-no_slots : (ts : List Ty) (o : ℕ) → slots_owning ts [] o ≡ 0
-no_slots [] o = refl
-no_slots (t ∷ ts) o = refl
+pub slots_counted : (ts : List Ty) (vs : List Slot) (o : ℕ) → count_by (λ (x : Ty × Slot). owns x.0 x.1 o == 1) (zip ts vs) ≡ slots_owning ts vs o
+slots_counted [] vs o = refl
+slots_counted (t ∷ ts) [] o = refl
+slots_counted (t ∷ ts) (v ∷ vs) o =
+    sum_by-cons (λ (x : Ty × Slot). cond (owns x.0 x.1 o == 1) 1 0) (t, v) (zip ts vs) ∙ ap₂ (λ (m n : ℕ). m + n) (one_owns t v o) (slots_counted ts vs o)
 
-pub slots_all : (ts : List Ty) (vs : List Slot) (i o : ℕ) → min (length ts) (length vs) ≤ i → slots_owning (drop i ts) (drop i vs) o ≡ 0
-slots_all ts vs i o h =
-    elim (cases_lt (length vs) (length ts)) [
-      | inl k ↦ at_drop_all (λ ys. slots_owning (drop i ts) ys o) vs i (omega arith) ∙ no_slots (drop i ts) o
-      | inr k ↦ at_drop_all (λ xs. slots_owning xs (drop i vs) o) ts i (omega arith)
-    ]
-
--- as many types as an answer gives, of a list that has them in front
-pub types_fit : (ts xs : List Ty) (k : ℕ) → k ≡ length ts → take k xs ≡ ts → k ≤ length xs
-types_fit ts xs k e h =
-    let size : length (take k xs) ≡ length ts = ap length h in
-    let taken : length (take k xs) ≡ min k (length xs) = length-take k xs in
-    omega arith
+-- the types that are in front where as many were found
+pub types_front : (ts xs : List Ty) (r : Result ℕ Fault) → r ≡ Ok (length ts) → Fronts ts xs r → take (result_unwrap_or r 0) xs ≡ ts
+types_front ts xs (Ok d) e h = h
+types_front ts xs (Err f) e h = let z : ◌≡◌ {A = ℕ} 0 1 = cc in absurd (omega arith)
 
 -- a frame that the table has stands before a record
 pub record_there : (p : Program) (F : Frame) → in_table p F ≡ true → F.index < length (callee p F.function).records
@@ -57,11 +64,9 @@ record_there p F h = ltb-true _ _ (and_parts (ltb F.function (length p.functions
 
 -- the frames that the table has
 module _ (p : Program) where
-  pub all_stops : (Fs : List Frame) (i : ℕ) → i < length Fs → false ≡ in_table p (get_or Fs i no_frame) → false ≡ all_in_table p (drop i Fs)
-  all_stops Fs i h e = sym (at_drop_more (all_in_table p) Fs i no_frame h ∙ ap (λ b. b && all_in_table p (drop (i + 1) Fs)) (sym e))
-
-  pub all_next : (Fs : List Frame) (i : ℕ) → i < length Fs → true ≡ in_table p (get_or Fs i no_frame) → all_in_table p (drop (i + 1) Fs) ≡ all_in_table p (drop i Fs)
-  all_next Fs i h e = sym (at_drop_more (all_in_table p) Fs i no_frame h ∙ ap (λ b. b && all_in_table p (drop (i + 1) Fs)) (sym e))
+  pub all_known : (Fs : List Frame) → list_all (in_table p) Fs ≡ all_in_table p Fs
+  all_known [] = refl
+  all_known (F ∷ Fs) = ap (λ (b : Bool). in_table p F && b) (all_known Fs)
 
   pub in_table_at : (Fs : List Frame) (i : ℕ) → all_in_table p Fs ≡ true → i < length Fs → in_table p (get_or Fs i no_frame) ≡ true
   in_table_at [] i h l = absurd (omega arith)

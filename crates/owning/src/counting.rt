@@ -1,5 +1,5 @@
 // Slots that own an object, by the types in scope before each frame's record.
-ghost use Rattle.std.specs.Prelude.{◌≡◌, ℕ, ◌*◌, ◌≤◌, true, map, length, take, Ok};
+ghost use Rattle.std.specs.Prelude.{◌≡◌, ℕ, ◌*◌, ◌≤◌, true, map, length, Ok, ◌==◌};
 ghost use Rattle.table.specs.Reading.{program_of};
 ghost use Rattle.rules.specs.Scopes.{verdict};
 ghost use Rattle.memory.specs.Model.{Store};
@@ -9,80 +9,74 @@ ghost use Rattle.safety.specs.Owners.{owns, slots_owning, frames_owning, tasks_o
 use machine::threads::{Frame, Slot, Thread};
 use rules::scope_at;
 use table::Table;
-use table::types::Ty;
+use table::types::{Kind, Ty};
 
-// 1 for a slot of this type that refers to the object, where the type is owned or pristine.
-fn owns(ty: Ty, slot: Slot, object: usize) -> usize
-    ensures value { result ≡ owns ty slot object }
-    ensures one { result ≤ 1 }
+// Whether a slot of this type refers to the object, and the type is owned or pristine.
+fn owns(ty: Ty, slot: Slot, object: usize) -> bool
+    ensures { result ≡ (owns ty slot object == 1) }
 {
     let Slot::Reference(held) = slot else {
-        return 0;
+        return false;
     };
-    if (ty.kind.is_owned() || ty.kind.is_pristine()) && held as usize == object {
-        1
-    } else {
-        0
-    }
+    (ty.kind == Kind::Owned || ty.kind == Kind::Pristine) && held as usize == object
 }
 
 fn slots_owning(types: &[Ty], slots: &[Slot], object: usize) -> usize
     ensures value { result ≡ slots_owning types.now slots.now object }
     ensures few { result ≤ length slots.now }
 {
-    let mut total = 0;
-    for i in 0..types.len().min(slots.len()) {
-        total += owns(types[i], slots[i], object);
-    }
-    total
+    types
+        .iter()
+        .zip(slots.iter())
+        .filter(|pair| owns(*pair.0, *pair.1, object))
+        .count()
 }
 
-// Brings the types in scope before a frame's record to the front of the scratch, and answers how many there are.
-fn types_of(table: &Table, frame: &Frame, scratch: &mut [Ty]) -> usize
-    requires { (verdict (program_of table.now) ≡ Ok tt) × ((in_table (program_of table.now) frame.now ≡ true) × (128 ≤ length scratch.old)) }
-    ensures types { take result scratch.new ≡ types_before (program_of table.now) frame.now.function frame.now.index }
-    ensures room { result ≤ length scratch.old }
-{
-    match scope_at(table, frame.function as usize, frame.index, scratch) {
-        Ok(depth) => depth,
-        Err(_) => 0,
-    }
+// An accepted table, and the object whose owners are counted.
+#[derive(Drop)]
+pub(crate) struct Owning<'a, 't> {
+    pub table: &'a Table<'t>,
+    pub object: usize,
+    ghost accepted: { verdict (program_of table.now) ≡ Ok tt },
 }
 
-fn frame_owning(table: &Table, frame: &Frame, object: usize, scratch: &mut [Ty]) -> usize
-    requires { (verdict (program_of table.now) ≡ Ok tt) × ((in_table (program_of table.now) frame.now ≡ true) × (128 ≤ length scratch.old)) }
-    ensures value { result ≡ slots_owning (types_before (program_of table.now) frame.now.function frame.now.index) frame.now.slots object }
-    ensures few { result ≤ 16 }
-{
-    let depth = types_of(table, frame, scratch);
-    slots_owning(&scratch[..depth], &frame.slots, object)
-}
-
-fn frames_owning(table: &Table, frames: &[Frame], object: usize, scratch: &mut [Ty]) -> usize
-    requires { (verdict (program_of table.now) ≡ Ok tt) × ((all_in_table (program_of table.now) frames.now ≡ true) × ((128 ≤ length scratch.old) × (length frames.now ≤ 8))) }
-    ensures value { result ≡ frames_owning (types_before (program_of table.now)) frames.now object }
-    ensures few { result ≤ 16 * length frames.now }
-{
-    let mut total = 0;
-    for frame in frames {
-        total += frame_owning(table, frame, object, scratch);
+// Each brings types in scope to the front of the scratch.
+impl Owning<'_, '_> {
+    fn in_frame(&self, frame: &Frame, scratch: &mut [Ty; 128]) -> usize
+        requires { in_table (program_of self.now.table.now) frame.now ≡ true }
+        ensures value { result ≡ slots_owning (types_before (program_of self.now.table.now) frame.now.function frame.now.index) frame.now.slots self.now.object }
+        ensures few { result ≤ 16 }
+    {
+        let scratch: &mut [Ty] = scratch;
+        let depth = scope_at(self.table, frame.function as usize, frame.index, scratch).unwrap_or(
+            0,
+        );
+        slots_owning(&scratch[..depth], &frame.slots, self.object)
     }
-    total
-}
 
-// Of all threads, where the table has all their frames.
-pub(crate) fn threads_owning(
-    table: &Table,
-    threads: &[Thread],
-    object: usize,
-    scratch: &mut [Ty],
-) -> usize
-    requires { (verdict (program_of table.now) ≡ Ok tt) × ((((m : Store) → frames_known (program_of table.now) (record { tasks = map task_of threads.now; memory = m }) ≡ Ok tt)) × ((128 ≤ length scratch.old) × (length threads.now ≤ 8))) }
-    ensures { result ≡ tasks_owning (types_before (program_of table.now)) (map task_of threads.now) object }
-{
-    let mut total = 0;
-    for thread in threads {
-        total += frames_owning(table, thread.in_use(), object, scratch);
+    fn in_frames(&self, frames: &[Frame], scratch: &mut [Ty; 128]) -> usize
+        requires known { all_in_table (program_of self.now.table.now) frames.now ≡ true }
+        requires few { length frames.now ≤ 8 }
+        ensures value { result ≡ frames_owning (types_before (program_of self.now.table.now)) frames.now self.now.object }
+        ensures few { result ≤ 16 * length frames.now }
+    {
+        let mut total = 0;
+        for frame in frames {
+            total += self.in_frame(frame, scratch);
+        }
+        total
     }
-    total
+
+    // Of all threads, where the table has all their frames.
+    pub(crate) fn in_threads(&self, threads: &[Thread], scratch: &mut [Ty; 128]) -> usize
+        requires known { (m : Store) → frames_known (program_of self.now.table.now) (record { tasks = map task_of threads.now; memory = m }) ≡ Ok tt }
+        requires few { length threads.now ≤ 8 }
+        ensures { result ≡ tasks_owning (types_before (program_of self.now.table.now)) (map task_of threads.now) self.now.object }
+    {
+        let mut total = 0;
+        for thread in threads {
+            total += self.in_frames(thread.in_use(), scratch);
+        }
+        total
+    }
 }

@@ -6,7 +6,7 @@ ghost use Rattle.machine.specs.World.{task_of, in_table};
 ghost use Rattle.safety.specs.Owners.{all_in_table, frames_known};
 
 use machine::threads::{Frame, Thread};
-use table::fault::demand;
+use table::fault::{Refusal, require};
 use table::{Fault, Place, Table};
 
 // Whether the table has the record that a frame stands before.
@@ -20,12 +20,7 @@ fn in_table(table: &Table, frame: &Frame) -> bool
 fn all_in_table(table: &Table, frames: &[Frame]) -> bool
     ensures { result ≡ all_in_table (program_of table.now) frames.now }
 {
-    for frame in frames {
-        if !in_table(table, frame) {
-            return false;
-        }
-    }
-    true
+    frames.iter().all(|frame| in_table(table, frame))
 }
 
 // 69 at the first thread with a frame that the table lacks.
@@ -33,7 +28,10 @@ pub(crate) fn require_frames(table: &Table, threads: &[Thread]) -> Result<(), Fa
     ensures { (m : Store) → result ≡ frames_known (program_of table.now) (record { tasks = map task_of threads.now; memory = m }) }
 {
     for (i, thread) in threads.iter().enumerate() {
-        demand(all_in_table(table, thread.in_use()), 69, Place::Thread(i))?;
+        require(
+            all_in_table(table, thread.in_use()),
+            Refusal::Unknown.at(Place::Thread(i)),
+        )?;
     }
     Ok(())
 }

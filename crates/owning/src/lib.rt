@@ -6,12 +6,12 @@ ghost use Rattle.table.specs.Reading.{program_of};
 ghost use Rattle.machine.specs.World.{world_of};
 ghost use Rattle.safety.specs.Owners.{owners};
 
-use counting::threads_owning;
+use counting::Owning;
 use known::require_frames;
 use machine::threads::Machine;
 use memory::keeping::Memory;
 use rules::check;
-use table::fault::demand;
+use table::fault::{Refusal, require};
 use table::types::Ty;
 use table::{Fault, Place, Table};
 
@@ -29,9 +29,15 @@ pub fn owners<M: Memory>(
 ) -> Result<usize, Fault>
     ensures { result ≡ owners (length scratch.old) (program_of table.now) (world_of machine.now (M.Memory.model memory.now)) object }
 {
+    let Some(scratch) = scratch.first_chunk_mut::<128>() else {
+        return Err(Refusal::Scratch.at(Place::Nothing));
+    };
     check(table, scratch)?;
-    demand(object < memory.count(), 63, Place::Nothing)?;
+    require(
+        object < memory.count(),
+        Refusal::NoObject.at(Place::Nothing),
+    )?;
     let threads = machine.in_use();
     require_frames(table, threads)?;
-    Ok(threads_owning(table, threads, object, scratch))
+    Ok(Owning { table, object }.in_threads(threads, scratch))
 }

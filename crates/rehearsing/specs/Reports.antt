@@ -13,7 +13,6 @@ use Rattle.safety.specs.Runs.{Counted, rounds}
 use Rattle.rehearsing.specs.declared.tally.Tally.{Tally}
 use Rattle.rehearsing.specs.declared.rehearsal.Rehearsal.{Rehearsal}
 use Rattle.rehearsing.specs.declared.rehearsal.Report.{Report}
-use Rattle.rehearsing.specs.declared.rehearsal.Report.TheVariants as coded
 
 -- how many threads have this status
 abbrev pub is_status : Status → Status → Bool
@@ -67,13 +66,12 @@ reported b = reported_on (record { capacity = 64; objects = [] }) b
 abbrev pub numbers_of : Rehearsal → List ℕ
 numbers_of r = take r.count r.numbers
 
-abbrev pub meant : Report → Told
-meant (coded.Refused e) = Refused e
-meant (coded.Ran r) = Ran (numbers_of r) r.tally
-
 abbrev pub ran_by : Result Rehearsal Fault → Result Told Fault
 ran_by (Ok r) = Ok (Ran (numbers_of r) r.tally)
 ran_by (Err e) = Err e
+
+abbrev pub meant : Report → Told
+meant r = told_by (ran_by r.outcome)
 
 -- the numbers, one to a line, and then the counts
 abbrev pub lines : List ℕ → List ℕ

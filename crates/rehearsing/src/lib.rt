@@ -7,13 +7,13 @@ ghost use Rattle.rehearsing.specs.Reports.{numbers_of, run_over, reported, repor
 
 use list::Bounded;
 use memory::keeping::Memory;
-use memory::object::{Cell, Object};
+use memory::object::Object;
 use memory::object_table::ObjectTable;
 use rehearsal::{Rehearsal, Report};
 use rules::check;
 use runner::rounds;
 use stepping::start;
-use table::types::{Kind, Ty};
+use table::types::Ty;
 use table::{Fault, open};
 use tally::Tally;
 
@@ -23,21 +23,6 @@ pub mod tally;
 
 // How many steps a rehearsal may take.
 const STEPS: usize = 10_000;
-
-const NUMBER: Ty = Ty {
-    kind: Kind::Number,
-    strukt: 0,
-    barred: 0,
-    withheld: 0,
-};
-
-const OBJECT: Object = Object {
-    kind: 0,
-    cells: [Cell {
-        word: 0,
-        mark: false,
-    }; 8],
-};
 
 // The numbers of a list, in an array of their own.
 fn copied(out: &Bounded<'_, u32>, tally: Tally) -> Rehearsal
@@ -61,7 +46,7 @@ fn run_whole<M: Memory>(bytes: &[u8], memory: &mut M, limit: usize) -> Result<Re
     ensures { ran_by result ≡ run_over limit (M.Memory.model memory.old) bytes.now }
 {
     let table = open(bytes)?;
-    let mut scratch = [NUMBER; 128];
+    let mut scratch = [Ty::NUMBER; 128];
     check(&table, &mut scratch)?;
     let mut machine = start(memory)?;
     let mut numbers = [0; 256];
@@ -74,9 +59,8 @@ fn run_whole<M: Memory>(bytes: &[u8], memory: &mut M, limit: usize) -> Result<Re
 pub fn rehearse_over<M: Memory>(bytes: &[u8], memory: &mut M) -> Report
     ensures { meant result ≡ reported_on (M.Memory.model memory.old) bytes.now }
 {
-    match run_whole(bytes, memory, STEPS) {
-        Ok(ran) => Report::Ran(ran),
-        Err(fault) => Report::Refused(fault),
+    Report {
+        outcome: run_whole(bytes, memory, STEPS),
     }
 }
 
@@ -84,9 +68,11 @@ pub fn rehearse_over<M: Memory>(bytes: &[u8], memory: &mut M) -> Report
 pub fn rehearse(bytes: &[u8]) -> Report
     ensures { meant result ≡ reported bytes.now }
 {
-    let mut objects = [OBJECT; 64];
+    let mut objects = [Object::BLANK; 64];
     match ObjectTable::new(&mut objects) {
         Ok(mut memory) => rehearse_over(bytes, &mut memory),
-        Err(fault) => Report::Refused(fault),
+        Err(fault) => Report {
+            outcome: Err(fault),
+        },
     }
 }

@@ -10,10 +10,8 @@ pub struct Rehearsal {
     pub tally: Tally,
 }
 
+// The run of a table, or how it is refused.
 #[derive(Clone, Copy, Drop)]
-pub enum Report {
-    // the table is refused
-    Refused(Fault),
-    // it was run
-    Ran(Rehearsal),
+pub struct Report {
+    pub outcome: Result<Rehearsal, Fault>,
 }

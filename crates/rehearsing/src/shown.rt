@@ -30,9 +30,9 @@ impl fmt::Display for Report {
     ghost output = { λ x. Some (report_text (meant x)) };
 
     fn fmt<W: fmt::Write>(&self, f: &mut fmt::Formatter<W>) -> fmt::Result {
-        match self {
-            Report::Refused(fault) => write!(f, "{fault}"),
-            Report::Ran(rehearsal) => {
+        match &self.outcome {
+            Err(fault) => write!(f, "{fault}"),
+            Ok(rehearsal) => {
                 write_lines(f, rehearsal.numbers())?;
                 let tally = rehearsal.tally;
                 write!(f, "{tally}")

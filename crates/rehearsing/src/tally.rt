@@ -1,8 +1,8 @@
 // How many threads of a machine ended, halted and run, and how many steps were taken.
-ghost use Rattle.std.specs.Prelude.{◌≡◌, ◌≤◌, map, if◌then◌else◌, Some};
+ghost use Rattle.std.specs.Prelude.{◌≡◌, map, Some};
 ghost use Rattle.machine.specs.World.{task_of};
 ghost use Rattle.machine.specs.Stacks.{tasks_of};
-ghost use Rattle.rehearsing.specs.Reports.{is_status, how_many, tallied, tally_text};
+ghost use Rattle.rehearsing.specs.Reports.{how_many, tallied, tally_text};
 
 use machine::threads::{Machine, Status, Thread};
 use std::fmt;
@@ -15,28 +15,11 @@ pub struct Tally {
     pub steps: usize,
 }
 
-// 1 for a thread with this status.
-fn one(status: Status, thread: &Thread) -> usize
-    ensures value { result ≡ (if is_status status thread.now.status then 1 else 0) }
-    ensures most { result ≤ 1 }
-{
-    match (status, thread.status) {
-        (Status::Running, Status::Running) => 1,
-        (Status::Ended, Status::Ended) => 1,
-        (Status::Halted, Status::Halted) => 1,
-        _ => 0,
-    }
-}
-
 // How many of these threads have a status.
 fn how_many(threads: &[Thread], status: Status) -> usize
     ensures { result ≡ how_many status (map task_of threads.now) }
 {
-    let mut count = 0;
-    for thread in threads {
-        count += one(status, thread);
-    }
-    count
+    threads.iter().filter(|t| t.status == status).count()
 }
 
 impl Tally {

@@ -7,30 +7,21 @@ ghost use Rattle.report.specs.Reports.{reported, report_text};
 
 use rules::check;
 use std::fmt;
-use table::types::{Kind, Ty};
+use table::types::Ty;
 use table::{Fault, open};
 
+// Whether the rules accept a table, or how it is refused.
 #[derive(Clone, Copy, Debug, PartialEq, Eq, Drop)]
-pub enum Report {
-    // the table is refused
-    Refused(Fault),
-    // the rules accept it
-    Accepted,
+pub struct Report {
+    pub verdict: Result<(), Fault>,
 }
-
-const NUMBER: Ty = Ty {
-    kind: Kind::Number,
-    strukt: 0,
-    barred: 0,
-    withheld: 0,
-};
 
 // What the rules say of a table's bytes.
 fn judge(bytes: &[u8]) -> Result<(), Fault>
     ensures { result ≡ judged bytes.now }
 {
     let table = open(bytes)?;
-    let mut scratch = [NUMBER; 128];
+    let mut scratch = [Ty::NUMBER; 128];
     check(&table, &mut scratch)
 }
 
@@ -38,9 +29,8 @@ fn judge(bytes: &[u8]) -> Result<(), Fault>
 pub fn rehearse(bytes: &[u8]) -> Report
     ensures { result ≡ reported bytes.now }
 {
-    match judge(bytes) {
-        Ok(()) => Report::Accepted,
-        Err(fault) => Report::Refused(fault),
+    Report {
+        verdict: judge(bytes),
     }
 }
 
@@ -48,9 +38,9 @@ impl fmt::Display for Report {
     ghost output = { λ x. Some (report_text x) };
 
     fn fmt<W: fmt::Write>(&self, f: &mut fmt::Formatter<W>) -> fmt::Result {
-        match self {
-            Report::Refused(fault) => write!(f, "{fault}"),
-            Report::Accepted => f.write_str("accepted"),
+        match self.verdict {
+            Ok(()) => f.write_str("accepted"),
+            Err(fault) => write!(f, "{fault}"),
         }
     }
 }
@@ -65,10 +55,8 @@ mod tests {
     #[test]
     fn too_long(rt: HostRuntime) -> Result<(), Fail> {
         let bytes = vec![in rt.alloc(); 1u8; 65_536]?;
-        assert_eq!(rt;
-            rehearse(&bytes),
-            Report::Refused(Fault::new(1, Place::Byte(0)))
-        );
+        let refusal = Fault::new(1, Place::Byte(0));
+        assert_eq!(rt; rehearse(&bytes).verdict, Err(refusal));
         Ok(())
     }
 }

@@ -8,7 +8,7 @@ pub mod Seen
 pub mod Fit
 pub mod Scan
 pub mod Numbers
-mod Loops
+mod Lists
 pub mod Judging
 pub mod Checked
 pub mod Walk

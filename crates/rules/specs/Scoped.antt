@@ -1,12 +1,14 @@
 -- What the rules ask of a record in the scope that the code has at hand.
-use Rattle.std.specs.Prelude.{ℕ, ◌<◌, Bool, List, length, Option}
+use Rattle.std.specs.Prelude.{ℕ, ◌<◌, Bool, List, length, Some, None, Ok, Err, Option, Result}
+use Rattle.table.specs.declared.fault.Refusal.{Refusal}
 use Rattle.table.specs.declared.types.Mode.{Mode}
 use Rattle.table.specs.declared.types.Ty.{Ty}
 use Rattle.table.specs.declared.records.Test.{Test}
 use Rattle.table.specs.declared.records.Test.TheVariants.{Nil, Same, Equal, Less, Link, Unlink, Swap, Try, Fix, Stable}
+use Rattle.table.specs.Faults.{number_of}
 use Rattle.table.specs.Records.{Op, New, Null, Int, Share, Own, Get, Take, Set, Add, Call, Fork, Return, Again, Join, Emit, Ask}
 use Rattle.rules.specs.declared.scope.Scope.{Scope}
-use Rattle.rules.specs.Rules.{first, premises, asks, bound, yes_types, slot, there, field_mode, field_type, tentative, callee}
+use Rattle.rules.specs.Rules.{Premise, first, premises, asks, bound, yes_types, slot, there, field_mode, field_type, tentative, callee}
 use Rattle.rules.specs.Seen.{program_in, function_in}
 
 abbrev pub types_in : Scope → List Ty
@@ -32,6 +34,15 @@ tentative_in s x f y = tentative (program_in s.body) (function_in s.body) (types
 -- the parameters of a function
 abbrev pub params_in : Scope → ℕ → List Ty
 params_in s n = (callee (program_in s.body) n).params
+
+-- a premise with its refusal, by the refusal's number
+abbrev pub by_number : Refusal × Bool → Premise
+by_number q = (number_of q.0, q.1)
+
+-- the number that something is refused with
+abbrev pub refusal_of : Result (Unit {0}) Refusal → Option ℕ
+refusal_of (Ok u) = None
+refusal_of (Err r) = Some (number_of r)
 
 -- the number of the first premise of a record that fails
 abbrev pub refused : Scope → Op → Option ℕ

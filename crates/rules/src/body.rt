@@ -1,4 +1,6 @@
 // The body of a function, and what a check reads of the table around it.
+#![tactic(auto, unfolding(crate::specs::Seen::seen))]
+
 ghost use Rattle.std.specs.Prelude.{◌≡◌, ◌≤◌, [], length, None, nat_lt, slice_index_or};
 ghost use Rattle.table.specs.Records.{meant_by};
 ghost use Rattle.table.specs.Reading.{number};
@@ -6,7 +8,7 @@ ghost use Rattle.rules.specs.Rules.{callee, declared};
 ghost use Rattle.rules.specs.Seen.{program_in, function_in};
 
 use table::records::Record;
-use table::types::{Field, Kind, Mode, Ty};
+use table::types::{Field, Ty};
 use table::view::Table;
 
 #[derive(Clone, Copy)]
@@ -14,19 +16,6 @@ pub struct Body<'t> {
     pub table: Table<'t>,
     pub function: usize,
 }
-
-// What stands for a type or a field that is not there.
-pub const NUMBER: Ty = Ty {
-    kind: Kind::Number,
-    strukt: 0,
-    barred: 0,
-    withheld: 0,
-};
-
-const NO_FIELD: Field = Field {
-    mode: Mode::Var,
-    ty: NUMBER,
-};
 
 // What is not there has no fields, no parameters and no records.
 impl<'t> Body<'t> {
@@ -48,13 +37,13 @@ impl<'t> Body<'t> {
         (f as usize) < self.table.fields(s as usize)
     }
 
+    #[tactic(auto, using(crate::proofs::Seen::field_seen))]
     pub fn field(self, s: u8, f: u8) -> Field
         ensures { result ≡ declared (program_in self.entry) s f }
     {
-        match self.table.field(s as usize, f as usize) {
-            Some(field) => field,
-            None => NO_FIELD,
-        }
+        self.table
+            .field(s as usize, f as usize)
+            .unwrap_or(Field::NONE)
     }
 
     pub fn params(self, n: usize) -> usize
@@ -64,22 +53,18 @@ impl<'t> Body<'t> {
         self.table.params(n)
     }
 
+    #[tactic(auto, using(crate::proofs::Seen::param_seen))]
     pub fn param(self, n: usize, i: usize) -> Ty
         ensures { result ≡ slice_index_or (callee (program_in self.entry) n).params i number }
     {
-        match self.table.param(n, i) {
-            Some(ty) => ty,
-            None => NUMBER,
-        }
+        self.table.param(n, i).unwrap_or(Ty::NUMBER)
     }
 
+    #[tactic(auto, using(crate::proofs::Seen::result_seen))]
     pub fn result(self, n: usize) -> Ty
         ensures { result ≡ (callee (program_in self.entry) n).result }
     {
-        match self.table.result(n) {
-            Some(ty) => ty,
-            None => NUMBER,
-        }
+        self.table.result(n).unwrap_or(Ty::NUMBER)
     }
 
     // How many records it has.
@@ -91,12 +76,10 @@ impl<'t> Body<'t> {
     }
 
     // What record i says, if it says something.
+    #[tactic(auto, using(crate::proofs::Seen::record_seen))]
     pub fn record_at(self, i: usize) -> Option<Record<'t>>
         ensures { meant_by result ≡ slice_index_or (function_in self.entry).records i None }
     {
-        match self.table.record(self.function, i) {
-            Ok(record) => Some(record),
-            Err(_) => None,
-        }
+        self.table.record(self.function, i).ok()
     }
 }

@@ -52,8 +52,8 @@ pub(crate) fn judge<'t>(body: Body<'t>, types: &[Ty], part: Part) -> Result<Reco
         return Err(Fault::new(20, place));
     };
     let scope = Scope { body, types };
-    if let Some(number) = scope.refusal(said) {
-        return Err(Fault::new(number, place));
+    if let Err(refusal) = scope.allow(said) {
+        return Err(refusal.at(place));
     }
     if !part.fits(said) {
         return Err(Fault::new(28, place));

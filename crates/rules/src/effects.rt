@@ -1,5 +1,5 @@
 // What an accepted record does to the types in scope.
-ghost use Rattle.std.specs.Prelude.{◌≡◌, ◌<◌, length, set, if◌then◌else◌, slice_set};
+ghost use Rattle.std.specs.Prelude.{◌≡◌, ◌<◌, length, if◌then◌else◌, slice_set};
 ghost use Rattle.table.specs.declared.types.Kind.TheVariants.{Alias};
 ghost use Rattle.table.specs.Types.{is_number};
 ghost use Rattle.table.specs.Reading.{number};
@@ -7,8 +7,7 @@ ghost use Rattle.table.specs.Records.{meant};
 ghost use Rattle.rules.specs.Rules.{type, withholding, flows, with, without};
 ghost use Rattle.rules.specs.Scoped.{types_in, slot_in, field_type_in, Low, Changes, binding, changed};
 
-use super::body::NUMBER;
-use super::flow::{alone, can_flow, with_bit, without_bit};
+use super::flow::{alone, can_flow};
 use super::scope::Scope;
 use table::records::{Record, Test};
 use table::types::{Kind, Ty};
@@ -35,21 +34,10 @@ fn type_of(kind: Kind, strukt: u8, withheld: u8) -> Ty
 fn lent(ty: Ty, withheld: u8) -> Ty
     ensures { result ≡ (if is_number ty.kind then number else type Alias ty.strukt withheld) }
 {
-    if ty.kind.is_number() {
-        NUMBER
+    if ty.kind == Kind::Number {
+        Ty::NUMBER
     } else {
         type_of(Kind::Alias, ty.strukt, withheld)
-    }
-}
-
-fn with_set(ty: Ty, withheld: u8) -> Ty
-    ensures { result ≡ withholding ty withheld }
-{
-    Ty {
-        kind: ty.kind,
-        strukt: ty.strukt,
-        barred: ty.barred,
-        withheld,
     }
 }
 
@@ -60,20 +48,12 @@ impl<'t, 's> Scope<'t, 's> {
         ensures { result ≡ withholding (slot_in self.entry x) (if flows (slot_in self.entry y) (field_type_in self.entry x f) then without (slot_in self.entry x).withheld f else with (slot_in self.entry x).withheld f) }
     {
         let ty = self.slot(x);
-        if can_flow(self.slot(y), self.field_type(x, f)) {
-            with_set(ty, without_bit(ty.withheld, f))
+        let withheld = if can_flow(self.slot(y), self.field_type(x, f)) {
+            ty.withheld & !alone(f)
         } else {
-            with_set(ty, with_bit(ty.withheld, f))
-        }
-    }
-
-    // The type of x with field f withheld too.
-    fn keeping(self, x: u8, f: u8) -> Ty
-        requires { f < 8 }
-        ensures { result ≡ withholding (slot_in self.entry x) (with (slot_in self.entry x).withheld f) }
-    {
-        let ty = self.slot(x);
-        with_set(ty, with_bit(ty.withheld, f))
+            ty.withheld | alone(f)
+        };
+        Ty { withheld, ..ty }
     }
 
     // The type that an accepted record binds.
@@ -82,25 +62,24 @@ impl<'t, 's> Scope<'t, 's> {
         ensures { result ≡ binding self.entry (meant said.entry) }
     {
         match said {
-            Record::New { z: _, s } => Some(type_of(Kind::Pristine, s, 0)),
-            Record::Null { z: _, s } => Some(type_of(Kind::Pristine, s, 0)),
-            Record::Int { .. } => Some(NUMBER),
-            Record::Share { z: _, x } => Some(lent(self.slot(x), self.slot(x).withheld)),
-            Record::Own { z: _, x } => Some(type_of(Kind::Owned, self.slot(x).strukt, 0)),
-            Record::Get { z: _, x, f } => Some(lent(self.field_type(x, f), 0)),
-            Record::Take { z: _, x, f } => Some(self.field_type(x, f)),
-            Record::Set { z: _, x, f, y } => Some(self.once_set(x, f, y)),
-            Record::Add { .. } => Some(NUMBER),
-            Record::Call { z: _, n, args: _ } => Some(self.body.result(n as usize)),
-            Record::Fork { .. } => None,
-            Record::Return { .. } => None,
-            Record::Again { .. } => None,
-            Record::Join { .. } => None,
-            Record::Emit { .. } => None,
-            Record::Ask { .. } => None,
+            Record::New { s, .. } | Record::Null { s, .. } => Some(type_of(Kind::Pristine, s, 0)),
+            Record::Int { .. } | Record::Add { .. } => Some(Ty::NUMBER),
+            Record::Share { x, .. } => Some(lent(self.slot(x), self.slot(x).withheld)),
+            Record::Own { x, .. } => Some(type_of(Kind::Owned, self.slot(x).strukt, 0)),
+            Record::Get { x, f, .. } => Some(lent(self.field_type(x, f), 0)),
+            Record::Take { x, f, .. } => Some(self.field_type(x, f)),
+            Record::Set { x, f, y, .. } => Some(self.once_set(x, f, y)),
+            Record::Call { n, .. } => Some(self.body.result(n as usize)),
+            Record::Fork { .. }
+            | Record::Return { .. }
+            | Record::Again { .. }
+            | Record::Join { .. }
+            | Record::Emit { .. }
+            | Record::Ask { .. } => None,
         }
     }
 
+    // Not an `Option`: who opens a yes block then writes a type, and puts one back, without a case for no change.
     fn unchanged(self, x: u8) -> Change
         ensures slot { result.slot ≡ x }
         ensures types { slice_set (types_in self.entry) x result.ty ≡ types_in self.entry }
@@ -118,31 +97,33 @@ impl<'t, 's> Scope<'t, 's> {
         ensures slot { result.slot < length (types_in self.entry) }
     {
         match test {
-            Test::Nil { x } => self.unchanged(x),
-            Test::Same { x, y: _ } => self.unchanged(x),
-            Test::Equal { x, y: _ } => self.unchanged(x),
-            Test::Less { x, y: _ } => self.unchanged(x),
-            Test::Link { x, .. } => self.unchanged(x),
+            Test::Nil { x }
+            | Test::Same { x, .. }
+            | Test::Equal { x, .. }
+            | Test::Less { x, .. }
+            | Test::Link { x, .. } => self.unchanged(x),
             Test::Unlink { x, f, y, g } => Change {
                 slot: y,
-                ty: with_set(self.field_type(x, f), alone(g)),
+                ty: Ty {
+                    withheld: alone(g),
+                    ..self.field_type(x, f)
+                },
             },
-            Test::Swap { x, f, y, w: _ } => Change {
+            Test::Swap { x, f, y, .. } => Change {
                 slot: y,
                 ty: self.field_type(x, f),
             },
-            Test::Try { x, f, y: _ } => Change {
-                slot: x,
-                ty: self.keeping(x, f),
-            },
-            Test::Fix { x, f, y: _ } => Change {
-                slot: x,
-                ty: self.keeping(x, f),
-            },
-            Test::Stable { x, f } => Change {
-                slot: x,
-                ty: self.keeping(x, f),
-            },
+            // field f is withheld too
+            Test::Try { x, f, .. } | Test::Fix { x, f, .. } | Test::Stable { x, f } => {
+                let ty = self.slot(x);
+                Change {
+                    slot: x,
+                    ty: Ty {
+                        withheld: ty.withheld | alone(f),
+                        ..ty
+                    },
+                }
+            }
         }
     }
 }

@@ -1,25 +1,27 @@
-// One rule for each op: its premises in reading order, with the numbers of their refusals. All are computed, so `&` and `|` do.
-ghost use Rattle.std.specs.Prelude.{◌≡◌, not, if◌then◌else◌};
+// One rule for each op: its premises in reading order, with their refusals. All are computed, so `&` and `|` do.
+ghost use Rattle.std.specs.Prelude.{◌≡◌, ◌&&◌, ◌==◌, not, length, map, nat_lt, if◌then◌else◌};
 ghost use Rattle.table.specs.declared.records.Test.TheVariants as asked;
 ghost use Rattle.table.specs.Records as op;
 ghost use Rattle.table.specs.Records.{meant};
-ghost use Rattle.table.specs.Types.{is_pristine, is_once, is_var};
-ghost use Rattle.rules.specs.Scoped.{slot_in, mode_in, tentative_in, refused, refused_test};
+ghost use Rattle.table.specs.Types.{is_owned, is_pristine, is_once, is_var, is_spec};
+ghost use Rattle.rules.specs.Rules.{passes};
+ghost use Rattle.rules.specs.Scoped.{types_in, slot_in, there_in, mode_in, field_type_in, params_in, tentative_in, by_number, refusal_of, refused, refused_test};
 
 use super::flow::{can_flow, has_bit, is_alone};
-use super::scope::{Scope, all_differ, first_failing};
+use super::scope::{Scope, all_differ, require_all};
+use table::fault::Refusal;
 use table::records::{Record, Test};
+use table::types::{Kind, Mode};
 use table::zeros_from;
 
 impl<'t, 's> Scope<'t, 's> {
-    // The number that a record is refused with, but for its place in the blocks.
-    pub fn refusal(self, said: Record<'_>) -> Option<u8>
-        ensures { result ≡ refused self.entry (meant said.entry) }
+    // Goes on where a record keeps its rule; its place in the blocks is not asked.
+    pub fn allow(self, said: Record<'_>) -> Result<(), Refusal>
+        ensures { refusal_of result ≡ refused self.entry (meant said.entry) }
     {
         match said {
-            Record::New { z, s } => self.new_rule(z, s),
-            Record::Null { z, s } => self.null_rule(z, s),
-            Record::Int { z, .. } => first_failing(&[(21, self.free(z))]),
+            Record::New { z, s } | Record::Null { z, s } => self.fresh_rule(z, s),
+            Record::Int { z, .. } => require_all(&[(Refusal::Binding, self.free(z))]),
             Record::Share { z, x } => self.share_rule(z, x),
             Record::Own { z, x } => self.own_rule(z, x),
             Record::Get { z, x, f } => self.get_rule(z, x, f),
@@ -30,65 +32,70 @@ impl<'t, 's> Scope<'t, 's> {
             Record::Fork { n, args } => self.fork_rule(n, args),
             Record::Return { x } => self.return_rule(x),
             Record::Again { args } => self.again_rule(args),
-            Record::Join { .. } => None,
+            Record::Join { .. } => Ok(()),
             Record::Emit { x } => self.emit_rule(x),
-            Record::Ask { test, .. } => self.test_refusal(test),
+            Record::Ask { test, .. } => self.allow_test(test),
         }
     }
 
-    fn new_rule(self, z: u8, s: u8) -> Option<u8>
-        ensures { result ≡ refused self.entry (op.New z s) }
+    // A new object and null are bound alike.
+    fn fresh_rule(self, z: u8, s: u8) -> Result<(), Refusal>
+        ensures new { refusal_of result ≡ refused self.entry (op.New z s) }
+        ensures null { refusal_of result ≡ refused self.entry (op.Null z s) }
     {
-        first_failing(&[(21, self.free(z)), (23, self.body.has_struct(s))])
-    }
-
-    fn null_rule(self, z: u8, s: u8) -> Option<u8>
-        ensures { result ≡ refused self.entry (op.Null z s) }
-    {
-        first_failing(&[(21, self.free(z)), (23, self.body.has_struct(s))])
-    }
-
-    fn share_rule(self, z: u8, x: u8) -> Option<u8>
-        ensures { result ≡ refused self.entry (op.Share z x) }
-    {
-        first_failing(&[
-            (21, self.free(z)),
-            (22, self.in_scope(x)),
-            (24, !self.is_pristine(x)),
+        require_all(&[
+            (Refusal::Binding, self.free(z)),
+            (Refusal::Callee, self.body.has_struct(s)),
         ])
     }
 
-    fn own_rule(self, z: u8, x: u8) -> Option<u8>
-        ensures { result ≡ refused self.entry (op.Own z x) }
+    fn share_rule(self, z: u8, x: u8) -> Result<(), Refusal>
+        ensures { refusal_of result ≡ refused self.entry (op.Share z x) }
     {
-        first_failing(&[
-            (21, self.free(z)),
-            (22, self.in_scope(x)),
-            (24, self.is_pristine(x)),
-            (26, self.slot(x).withheld == 0),
+        require_all(&[
+            (Refusal::Binding, self.free(z)),
+            (Refusal::Operand, self.in_scope(x)),
+            (Refusal::Kind, self.kind(x) != Kind::Pristine),
         ])
     }
 
-    fn get_rule(self, z: u8, x: u8, f: u8) -> Option<u8>
-        ensures { result ≡ refused self.entry (op.Get z x f) }
+    fn own_rule(self, z: u8, x: u8) -> Result<(), Refusal>
+        ensures { refusal_of result ≡ refused self.entry (op.Own z x) }
     {
-        first_failing(&[
-            (21, self.free(z)),
-            (22, self.in_scope(x)),
-            (24, !self.is_number(x)),
-            (25, self.has_field(x, f)),
-            (26, !(self.mode(x, f).is_var() & self.is_alias(x))),
+        require_all(&[
+            (Refusal::Binding, self.free(z)),
+            (Refusal::Operand, self.in_scope(x)),
+            (Refusal::Kind, self.kind(x) == Kind::Pristine),
+            (Refusal::Withheld, self.slot(x).withheld == 0),
         ])
     }
 
-    fn take_rule(self, z: u8, x: u8, f: u8) -> Option<u8>
-        ensures { result ≡ refused self.entry (op.Take z x f) }
+    fn get_rule(self, z: u8, x: u8, f: u8) -> Result<(), Refusal>
+        ensures { refusal_of result ≡ refused self.entry (op.Get z x f) }
     {
-        first_failing(&[
-            (21, self.free(z)),
-            (22, self.in_scope(x)),
-            (24, self.is_held(x)),
-            (25, self.has_field(x, f) & self.mode(x, f).is_var()),
+        require_all(&[
+            (Refusal::Binding, self.free(z)),
+            (Refusal::Operand, self.in_scope(x)),
+            (Refusal::Kind, self.kind(x) != Kind::Number),
+            (Refusal::Field, self.has_field(x, f)),
+            (
+                Refusal::Withheld,
+                (self.mode(x, f) != Mode::Var) | (self.kind(x) != Kind::Alias),
+            ),
+        ])
+    }
+
+    fn take_rule(self, z: u8, x: u8, f: u8) -> Result<(), Refusal>
+        ensures { refusal_of result ≡ refused self.entry (op.Take z x f) }
+    {
+        require_all(&[
+            (Refusal::Binding, self.free(z)),
+            (Refusal::Operand, self.in_scope(x)),
+            (Refusal::Kind, self.is_held(x)),
+            (
+                Refusal::Field,
+                self.has_field(x, f) & (self.mode(x, f) == Mode::Var),
+            ),
         ])
     }
 
@@ -96,10 +103,10 @@ impl<'t, 's> Scope<'t, 's> {
     fn may_set(self, x: u8, f: u8) -> bool
         ensures { result ≡ (if is_pristine (slot_in self.entry x).kind then not (is_once (mode_in self.entry x f)) else is_var (mode_in self.entry x f)) }
     {
-        if self.is_pristine(x) {
-            !self.mode(x, f).is_once()
+        if self.kind(x) == Kind::Pristine {
+            self.mode(x, f) != Mode::Once
         } else {
-            self.mode(x, f).is_var()
+            self.mode(x, f) == Mode::Var
         }
     }
 
@@ -109,103 +116,107 @@ impl<'t, 's> Scope<'t, 's> {
     {
         let field = self.field_type(x, f);
         let from = self.slot(y);
-        !self.mode(x, f).is_var()
-            & field.kind.is_owned()
-            & self.is_alias(y)
+        (self.mode(x, f) != Mode::Var)
+            & (field.kind == Kind::Owned)
+            & (from.kind == Kind::Alias)
             & (from.strukt == field.strukt)
             & (from.withheld == 0)
     }
 
-    fn set_rule(self, z: u8, x: u8, f: u8, y: u8) -> Option<u8>
-        ensures { result ≡ refused self.entry (op.Set z x f y) }
+    fn set_rule(self, z: u8, x: u8, f: u8, y: u8) -> Result<(), Refusal>
+        ensures { refusal_of result ≡ refused self.entry (op.Set z x f y) }
     {
-        first_failing(&[
-            (21, self.free(z)),
-            (22, self.in_scope(x) & self.in_scope(y) & (x != y)),
-            (24, self.is_held(x)),
-            (25, self.has_field(x, f) & self.may_set(x, f)),
+        require_all(&[
+            (Refusal::Binding, self.free(z)),
+            (Refusal::Operand, self.are_two(x, y)),
+            (Refusal::Kind, self.is_held(x)),
+            (Refusal::Field, self.has_field(x, f) & self.may_set(x, f)),
             (
-                27,
+                Refusal::Flow,
                 can_flow(self.slot(y), self.field_type(x, f)) | self.is_tentative(x, f, y),
             ),
         ])
     }
 
-    fn add_rule(self, z: u8, x: u8, y: u8) -> Option<u8>
-        ensures { result ≡ refused self.entry (op.Add z x y) }
+    fn add_rule(self, z: u8, x: u8, y: u8) -> Result<(), Refusal>
+        ensures { refusal_of result ≡ refused self.entry (op.Add z x y) }
     {
-        first_failing(&[
-            (21, self.free(z)),
-            (22, self.in_scope(x) & self.in_scope(y)),
-            (24, self.is_number(x) & self.is_number(y)),
-        ])
-    }
-
-    fn call_rule(self, z: u8, n: u8, args: &[u8]) -> Option<u8>
-        ensures { result ≡ refused self.entry (op.Call z n args.now) }
-    {
-        let given = self.arguments(n as usize, args);
-        first_failing(&[
-            (21, self.free(z)),
-            (22, self.all_in_scope(given) & all_differ(given)),
+        require_all(&[
+            (Refusal::Binding, self.free(z)),
+            (Refusal::Operand, self.in_scope(x) & self.in_scope(y)),
             (
-                23,
-                self.body.has_function(n) & zeros_from(args, self.body.params(n as usize)),
+                Refusal::Kind,
+                (self.kind(x) == Kind::Number) & (self.kind(y) == Kind::Number),
             ),
-            (27, self.flow_to(given, n as usize)),
         ])
     }
 
-    fn fork_rule(self, n: u8, args: &[u8]) -> Option<u8>
-        ensures { result ≡ refused self.entry (op.Fork n args.now) }
+    // What a call, a fork and `again` ask of their bytes: so many arguments as function n has parameters, and zeros past them.
+    fn passing(self, n: usize, args: &[u8], there: bool) -> [(Refusal, bool); 3]
+        ensures { map by_number result ≡ passes (types_in self.entry) (params_in self.entry n) args.now there }
     {
-        let given = self.arguments(n as usize, args);
-        first_failing(&[
-            (22, self.all_in_scope(given) & all_differ(given)),
+        let given = self.arguments(n, args);
+        [
             (
-                23,
-                self.body.has_function(n) & zeros_from(args, self.body.params(n as usize)),
+                Refusal::Operand,
+                self.all_in_scope(given) & all_differ(given),
             ),
-            (27, self.flow_to(given, n as usize)),
-        ])
+            (
+                Refusal::Callee,
+                there & zeros_from(args, self.body.params(n)),
+            ),
+            (Refusal::Flow, self.flow_to(given, n)),
+        ]
     }
 
-    fn return_rule(self, x: u8) -> Option<u8>
-        ensures { result ≡ refused self.entry (op.Return x) }
+    fn call_rule(self, z: u8, n: u8, args: &[u8]) -> Result<(), Refusal>
+        ensures { refusal_of result ≡ refused self.entry (op.Call z n args.now) }
+    {
+        let [operands, callee, flow] = self.passing(n as usize, args, self.body.has_function(n));
+        require_all(&[(Refusal::Binding, self.free(z)), operands, callee, flow])
+    }
+
+    fn fork_rule(self, n: u8, args: &[u8]) -> Result<(), Refusal>
+        ensures { refusal_of result ≡ refused self.entry (op.Fork n args.now) }
+    {
+        require_all(&self.passing(n as usize, args, self.body.has_function(n)))
+    }
+
+    fn return_rule(self, x: u8) -> Result<(), Refusal>
+        ensures { refusal_of result ≡ refused self.entry (op.Return x) }
     {
         let result = self.body.result(self.body.function);
-        first_failing(&[(22, self.in_scope(x)), (27, can_flow(self.slot(x), result))])
-    }
-
-    fn again_rule(self, args: &[u8]) -> Option<u8>
-        ensures { result ≡ refused self.entry (op.Again args.now) }
-    {
-        let n = self.body.function;
-        let given = self.arguments(n, args);
-        first_failing(&[
-            (22, self.all_in_scope(given) & all_differ(given)),
-            (23, zeros_from(args, self.body.params(n))),
-            (27, self.flow_to(given, n)),
+        require_all(&[
+            (Refusal::Operand, self.in_scope(x)),
+            (Refusal::Flow, can_flow(self.slot(x), result)),
         ])
     }
 
-    fn emit_rule(self, x: u8) -> Option<u8>
-        ensures { result ≡ refused self.entry (op.Emit x) }
+    fn again_rule(self, args: &[u8]) -> Result<(), Refusal>
+        ensures { refusal_of result ≡ refused self.entry (op.Again args.now) }
     {
-        first_failing(&[(22, self.in_scope(x)), (24, self.is_number(x))])
+        require_all(&self.passing(self.body.function, args, true))
+    }
+
+    fn emit_rule(self, x: u8) -> Result<(), Refusal>
+        ensures { refusal_of result ≡ refused self.entry (op.Emit x) }
+    {
+        require_all(&[
+            (Refusal::Operand, self.in_scope(x)),
+            (Refusal::Kind, self.kind(x) == Kind::Number),
+        ])
     }
 }
 
 // The rules of the tests.
 impl<'t, 's> Scope<'t, 's> {
-    fn test_refusal(self, test: Test) -> Option<u8>
-        ensures { result ≡ refused_test self.entry test }
+    fn allow_test(self, test: Test) -> Result<(), Refusal>
+        ensures { refusal_of result ≡ refused_test self.entry test }
     {
         match test {
-            Test::Nil { x } => first_failing(&[(22, self.in_scope(x)), (24, !self.is_number(x))]),
+            Test::Nil { x } => self.nil_rule(x),
             Test::Same { x, y } => self.same_rule(x, y),
-            Test::Equal { x, y } => self.equal_rule(x, y),
-            Test::Less { x, y } => self.less_rule(x, y),
+            Test::Equal { x, y } | Test::Less { x, y } => self.compare_rule(x, y),
             Test::Link { x, f, y, g } => self.link_rule(x, f, y, g),
             Test::Unlink { x, f, y, g } => self.unlink_rule(x, f, y, g),
             Test::Swap { x, f, y, w } => self.swap_rule(x, f, y, w),
@@ -215,90 +226,117 @@ impl<'t, 's> Scope<'t, 's> {
         }
     }
 
-    fn same_rule(self, x: u8, y: u8) -> Option<u8>
-        ensures { result ≡ refused_test self.entry (asked.Same x y) }
+    // Whether x and y are two slots in scope.
+    fn are_two(self, x: u8, y: u8) -> bool
+        ensures { result ≡ (nat_lt x (length (types_in self.entry)) && nat_lt y (length (types_in self.entry)) && not (x == y)) }
     {
-        first_failing(&[
-            (22, self.in_scope(x) & self.in_scope(y)),
-            (24, !self.is_number(x) & !self.is_number(y)),
-            (27, self.slot(x).strukt == self.slot(y).strukt),
+        self.in_scope(x) & self.in_scope(y) & (x != y)
+    }
+
+    // Whether f is a spec field of x's struct.
+    fn has_spec(self, x: u8, f: u8) -> bool
+        ensures { result ≡ (there_in self.entry x f && is_spec (mode_in self.entry x f)) }
+    {
+        self.has_field(x, f) & (self.mode(x, f) == Mode::Spec)
+    }
+
+    fn nil_rule(self, x: u8) -> Result<(), Refusal>
+        ensures { refusal_of result ≡ refused_test self.entry (asked.Nil x) }
+    {
+        require_all(&[
+            (Refusal::Operand, self.in_scope(x)),
+            (Refusal::Kind, self.kind(x) != Kind::Number),
         ])
     }
 
-    fn equal_rule(self, x: u8, y: u8) -> Option<u8>
-        ensures { result ≡ refused_test self.entry (asked.Equal x y) }
+    fn same_rule(self, x: u8, y: u8) -> Result<(), Refusal>
+        ensures { refusal_of result ≡ refused_test self.entry (asked.Same x y) }
     {
-        first_failing(&[
-            (22, self.in_scope(x) & self.in_scope(y)),
-            (24, self.is_number(x) & self.is_number(y)),
+        require_all(&[
+            (Refusal::Operand, self.in_scope(x) & self.in_scope(y)),
+            (
+                Refusal::Kind,
+                (self.kind(x) != Kind::Number) & (self.kind(y) != Kind::Number),
+            ),
+            (Refusal::Flow, self.slot(x).strukt == self.slot(y).strukt),
         ])
     }
 
-    fn less_rule(self, x: u8, y: u8) -> Option<u8>
-        ensures { result ≡ refused_test self.entry (asked.Less x y) }
+    // Two numbers, equal or less.
+    fn compare_rule(self, x: u8, y: u8) -> Result<(), Refusal>
+        ensures equal { refusal_of result ≡ refused_test self.entry (asked.Equal x y) }
+        ensures less { refusal_of result ≡ refused_test self.entry (asked.Less x y) }
     {
-        first_failing(&[
-            (22, self.in_scope(x) & self.in_scope(y)),
-            (24, self.is_number(x) & self.is_number(y)),
+        require_all(&[
+            (Refusal::Operand, self.in_scope(x) & self.in_scope(y)),
+            (
+                Refusal::Kind,
+                (self.kind(x) == Kind::Number) & (self.kind(y) == Kind::Number),
+            ),
         ])
     }
 
-    fn link_rule(self, x: u8, f: u8, y: u8, g: u8) -> Option<u8>
-        ensures { result ≡ refused_test self.entry (asked.Link x f y g) }
+    // Whether field f of x's struct owns objects of y's struct.
+    fn owns(self, x: u8, f: u8, y: u8) -> bool
+        ensures { result ≡ (is_owned (field_type_in self.entry x f).kind && (field_type_in self.entry x f).strukt == (slot_in self.entry y).strukt) }
     {
         let field = self.field_type(x, f);
-        first_failing(&[
-            (22, self.in_scope(x) & self.in_scope(y) & (x != y)),
-            (24, self.is_lasting(x) & self.is_pristine(y)),
+        (field.kind == Kind::Owned) & (field.strukt == self.slot(y).strukt)
+    }
+
+    fn link_rule(self, x: u8, f: u8, y: u8, g: u8) -> Result<(), Refusal>
+        ensures { refusal_of result ≡ refused_test self.entry (asked.Link x f y g) }
+    {
+        require_all(&[
+            (Refusal::Operand, self.are_two(x, y)),
             (
-                25,
-                self.has_field(x, f)
-                    & self.mode(x, f).is_spec()
-                    & self.has_field(y, g)
-                    & self.mode(y, g).is_val(),
+                Refusal::Kind,
+                self.is_lasting(x) & (self.kind(y) == Kind::Pristine),
             ),
-            (26, is_alone(self.slot(y).withheld, g)),
             (
-                27,
-                field.kind.is_owned()
-                    & (field.strukt == self.slot(y).strukt)
-                    & can_flow(field, self.field_type(y, g)),
+                Refusal::Field,
+                self.has_spec(x, f) & self.has_field(y, g) & (self.mode(y, g) == Mode::Val),
+            ),
+            (Refusal::Withheld, is_alone(self.slot(y).withheld, g)),
+            (
+                Refusal::Flow,
+                self.owns(x, f, y) & can_flow(self.field_type(x, f), self.field_type(y, g)),
             ),
         ])
     }
 
-    fn unlink_rule(self, x: u8, f: u8, y: u8, g: u8) -> Option<u8>
-        ensures { result ≡ refused_test self.entry (asked.Unlink x f y g) }
+    fn unlink_rule(self, x: u8, f: u8, y: u8, g: u8) -> Result<(), Refusal>
+        ensures { refusal_of result ≡ refused_test self.entry (asked.Unlink x f y g) }
     {
         let field = self.field_type(x, f);
-        first_failing(&[
-            (22, self.in_scope(x) & self.in_scope(y) & (x != y)),
-            (24, self.is_lasting(x) & self.is_alias(y)),
+        require_all(&[
+            (Refusal::Operand, self.are_two(x, y)),
             (
-                25,
-                self.has_field(x, f)
-                    & self.mode(x, f).is_spec()
-                    & self.has_field(y, g)
-                    & !self.mode(y, g).is_var(),
+                Refusal::Kind,
+                self.is_lasting(x) & (self.kind(y) == Kind::Alias),
             ),
             (
-                26,
-                self.mode(y, g).is_val() | has_bit(self.slot(y).withheld, g),
+                Refusal::Field,
+                self.has_spec(x, f) & self.has_field(y, g) & (self.mode(y, g) != Mode::Var),
             ),
             (
-                27,
+                Refusal::Withheld,
+                (self.mode(y, g) == Mode::Val) | has_bit(self.slot(y).withheld, g),
+            ),
+            (
+                Refusal::Flow,
                 (self.slot(y).strukt == field.strukt) & can_flow(self.field_type(y, g), field),
             ),
         ])
     }
 
-    fn swap_rule(self, x: u8, f: u8, y: u8, w: u8) -> Option<u8>
-        ensures { result ≡ refused_test self.entry (asked.Swap x f y w) }
+    fn swap_rule(self, x: u8, f: u8, y: u8, w: u8) -> Result<(), Refusal>
+        ensures { refusal_of result ≡ refused_test self.entry (asked.Swap x f y w) }
     {
         let field = self.field_type(x, f);
-        first_failing(&[
+        require_all(&[
             (
-                22,
+                Refusal::Operand,
                 self.in_scope(x)
                     & self.in_scope(y)
                     & self.in_scope(w)
@@ -306,47 +344,63 @@ impl<'t, 's> Scope<'t, 's> {
                     & (x != w)
                     & (y != w),
             ),
-            (24, self.is_lasting(x) & self.is_alias(y)),
-            (25, self.has_field(x, f) & self.mode(x, f).is_spec()),
             (
-                27,
+                Refusal::Kind,
+                self.is_lasting(x) & (self.kind(y) == Kind::Alias),
+            ),
+            (Refusal::Field, self.has_spec(x, f)),
+            (
+                Refusal::Flow,
                 (self.slot(y).strukt == field.strukt) & can_flow(self.slot(w), field),
             ),
         ])
     }
 
-    fn try_rule(self, x: u8, f: u8, y: u8) -> Option<u8>
-        ensures { result ≡ refused_test self.entry (asked.Try x f y) }
+    fn try_rule(self, x: u8, f: u8, y: u8) -> Result<(), Refusal>
+        ensures { refusal_of result ≡ refused_test self.entry (asked.Try x f y) }
     {
-        first_failing(&[
-            (22, self.in_scope(x) & self.in_scope(y) & (x != y)),
-            (24, self.is_lasting(x) & self.is_pristine(y)),
-            (25, self.has_field(x, f) & self.mode(x, f).is_once()),
-            (26, self.slot(y).withheld == 0),
-            (27, can_flow(self.slot(y), self.field_type(x, f))),
-        ])
-    }
-
-    fn fix_rule(self, x: u8, f: u8, y: u8) -> Option<u8>
-        ensures { result ≡ refused_test self.entry (asked.Fix x f y) }
-    {
-        first_failing(&[
-            (22, self.in_scope(x) & self.in_scope(y)),
-            (24, self.is_lasting(x) & !self.is_number(y)),
-            (25, self.has_field(x, f) & self.mode(x, f).is_spec()),
-            (27, self.slot(y).strukt == self.field_type(x, f).strukt),
-        ])
-    }
-
-    fn stable_rule(self, x: u8, f: u8) -> Option<u8>
-        ensures { result ≡ refused_test self.entry (asked.Stable x f) }
-    {
-        first_failing(&[
-            (22, self.in_scope(x)),
-            (24, self.is_lasting(x)),
+        require_all(&[
+            (Refusal::Operand, self.are_two(x, y)),
             (
-                25,
-                self.has_field(x, f) & (self.mode(x, f).is_once() | self.mode(x, f).is_spec()),
+                Refusal::Kind,
+                self.is_lasting(x) & (self.kind(y) == Kind::Pristine),
+            ),
+            (
+                Refusal::Field,
+                self.has_field(x, f) & (self.mode(x, f) == Mode::Once),
+            ),
+            (Refusal::Withheld, self.slot(y).withheld == 0),
+            (Refusal::Flow, can_flow(self.slot(y), self.field_type(x, f))),
+        ])
+    }
+
+    fn fix_rule(self, x: u8, f: u8, y: u8) -> Result<(), Refusal>
+        ensures { refusal_of result ≡ refused_test self.entry (asked.Fix x f y) }
+    {
+        require_all(&[
+            (Refusal::Operand, self.in_scope(x) & self.in_scope(y)),
+            (
+                Refusal::Kind,
+                self.is_lasting(x) & (self.kind(y) != Kind::Number),
+            ),
+            (Refusal::Field, self.has_spec(x, f)),
+            (
+                Refusal::Flow,
+                self.slot(y).strukt == self.field_type(x, f).strukt,
+            ),
+        ])
+    }
+
+    fn stable_rule(self, x: u8, f: u8) -> Result<(), Refusal>
+        ensures { refusal_of result ≡ refused_test self.entry (asked.Stable x f) }
+    {
+        require_all(&[
+            (Refusal::Operand, self.in_scope(x)),
+            (Refusal::Kind, self.is_lasting(x)),
+            (
+                Refusal::Field,
+                self.has_field(x, f)
+                    & ((self.mode(x, f) == Mode::Once) | (self.mode(x, f) == Mode::Spec)),
             ),
         ])
     }

@@ -1,12 +1,13 @@
 // A scope: the types of the slots that a record finds.
-ghost use Rattle.std.specs.Prelude.{◌≡◌, ◌≤◌, ◌&&◌, ◌||◌, length, take, ◌==◌, nat_lt};
+ghost use Rattle.std.specs.Prelude.{◌≡◌, ◌≤◌, ◌&&◌, ◌||◌, length, take, map, ◌==◌, nat_lt};
 ghost use Rattle.table.specs.Types.{is_number, is_alias, is_owned, is_pristine};
-ghost use Rattle.rules.specs.Rules.{first, below, lacks, distinct, flow_to};
-ghost use Rattle.rules.specs.Scoped.{types_in, slot_in, there_in, mode_in, field_type_in, params_in};
+ghost use Rattle.rules.specs.Rules.{first, below, distinct, flow_to};
+ghost use Rattle.rules.specs.Scoped.{types_in, slot_in, there_in, mode_in, field_type_in, params_in, by_number, refusal_of};
 
-use super::body::{Body, NUMBER};
+use super::body::Body;
 use super::flow::can_flow;
-use table::types::{Mode, Ty};
+use table::fault::Refusal;
+use table::types::{Kind, Mode, Ty};
 
 #[derive(Clone, Copy)]
 pub struct Scope<'t, 's> {
@@ -14,17 +15,14 @@ pub struct Scope<'t, 's> {
     pub types: &'s [Ty],
 }
 
-// The number of the first premise that fails.
-pub fn first_failing(premises: &[(u8, bool)]) -> Option<u8>
-    ensures { result ≡ first premises.now }
+// Goes on where all premises hold, and is refused by the first that fails.
+pub fn require_all(premises: &[(Refusal, bool)]) -> Result<(), Refusal>
+    ensures { refusal_of result ≡ first (map by_number premises.now) }
 {
-    for premise in premises {
-        let (number, holds) = *premise;
-        if !holds {
-            return Some(number);
-        }
+    match premises.iter().find(|(_, holds)| !*holds) {
+        Some((refusal, _)) => Err(*refusal),
+        None => Ok(()),
     }
-    None
 }
 
 // What rules ask of slots. A slot that is not in scope reads as a number.
@@ -45,46 +43,27 @@ impl<'t, 's> Scope<'t, 's> {
     pub fn slot(self, x: u8) -> Ty
         ensures { result ≡ slot_in self.entry x }
     {
-        let i = x as usize;
-        if i < self.types.len() {
-            self.types[i]
-        } else {
-            NUMBER
-        }
+        self.types.get(x as usize).copied().unwrap_or(Ty::NUMBER)
     }
 
-    pub fn is_number(self, x: u8) -> bool
-        ensures { result ≡ is_number (slot_in self.entry x).kind }
+    pub fn kind(self, x: u8) -> Kind
+        ensures { result ≡ (slot_in self.entry x).kind }
     {
-        self.slot(x).kind.is_number()
-    }
-
-    pub fn is_alias(self, x: u8) -> bool
-        ensures { result ≡ is_alias (slot_in self.entry x).kind }
-    {
-        self.slot(x).kind.is_alias()
-    }
-
-    pub fn is_pristine(self, x: u8) -> bool
-        ensures { result ≡ is_pristine (slot_in self.entry x).kind }
-    {
-        self.slot(x).kind.is_pristine()
+        self.slot(x).kind
     }
 
     // An alias or owned.
     pub fn is_lasting(self, x: u8) -> bool
         ensures { result ≡ (is_alias (slot_in self.entry x).kind || is_owned (slot_in self.entry x).kind) }
     {
-        let kind = self.slot(x).kind;
-        kind.is_alias() || kind.is_owned()
+        matches!(self.kind(x), Kind::Alias | Kind::Owned)
     }
 
     // Owned or pristine.
     pub fn is_held(self, x: u8) -> bool
         ensures { result ≡ (is_owned (slot_in self.entry x).kind || is_pristine (slot_in self.entry x).kind) }
     {
-        let kind = self.slot(x).kind;
-        kind.is_owned() || kind.is_pristine()
+        matches!(self.kind(x), Kind::Owned | Kind::Pristine)
     }
 
     // Whether x's struct has a field f.
@@ -111,12 +90,7 @@ impl<'t, 's> Scope<'t, 's> {
     pub fn all_in_scope(self, slots: &[u8]) -> bool
         ensures { result ≡ below (length (types_in self.entry)) slots.now }
     {
-        for x in slots {
-            if !self.in_scope(*x) {
-                return false;
-            }
-        }
-        true
+        slots.iter().all(|x| self.in_scope(*x))
     }
 
     // Whether each slot flows to the parameter of function n at its place.
@@ -124,12 +98,10 @@ impl<'t, 's> Scope<'t, 's> {
         requires { length slots.now ≤ length (params_in self n) }
         ensures { result ≡ flow_to (types_in self.entry) slots.now (params_in self.entry n) }
     {
-        for i in 0..slots.len() {
-            if !can_flow(self.slot(slots[i]), self.body.param(n, i)) {
-                return false;
-            }
-        }
-        true
+        slots
+            .iter()
+            .enumerate()
+            .all(|(i, x)| can_flow(self.slot(*x), self.body.param(n, i)))
     }
 
     // The bytes that are a call's arguments: so many as function n has parameters.
@@ -138,35 +110,16 @@ impl<'t, 's> Scope<'t, 's> {
         ensures few { length result.now ≤ length (params_in self.entry n) }
     {
         let count = self.body.params(n);
-        if count < bytes.len() {
-            &bytes[0..count]
-        } else {
-            bytes
-        }
+        &bytes[..count.min(bytes.len())]
     }
-}
-
-// Whether x is none of these slots.
-fn is_other(x: u8, slots: &[u8]) -> bool
-    ensures { result ≡ lacks x slots.now }
-{
-    for y in slots {
-        if x == *y {
-            return false;
-        }
-    }
-    true
 }
 
 // Whether no slot is named twice.
 pub fn all_differ(slots: &[u8]) -> bool
     ensures { result ≡ distinct slots.now }
 {
-    for i in 0..slots.len() {
-        let (x, rest) = (slots[i], &slots[i + 1..]);
-        if !is_other(x, rest) {
-            return false;
-        }
+    match slots {
+        [x, rest @ ..] => !rest.contains(x) && all_differ(rest),
+        [] => true,
     }
-    true
 }

@@ -9,7 +9,7 @@ ghost use Rattle.rules.specs.Parts.{test_refused_in};
 ghost use Rattle.rules.specs.Before.{scoped, Fronts};
 ghost use Rattle.rules.specs.Stacks.{sort_by, following, blocks_of, state_of, stack, Deep, part_at, Passed};
 
-use super::body::{Body, NUMBER};
+use super::body::Body;
 use super::checking::{bind, enter, judge};
 use super::parts::{Part, Sort};
 use super::scope::Scope;
@@ -36,7 +36,7 @@ const UNUSED: Open = Open {
     count: None,
     depth: 0,
     slot: 0,
-    was: NUMBER,
+    was: Ty::NUMBER,
 };
 
 impl Open {

@@ -31,9 +31,9 @@ fn allowed<'t>(body: Body<'t>, types: &[Ty], place: usize) -> Option<Record<'t>>
         return None;
     };
     let scope = Scope { body, types };
-    match scope.refusal(said) {
-        Some(_) => None,
-        None => Some(said),
+    match scope.allow(said) {
+        Err(_) => None,
+        Ok(()) => Some(said),
     }
 }
 

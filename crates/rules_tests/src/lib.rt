@@ -2,15 +2,8 @@
 #![tactic(auto)]
 
 use rules::check;
-use table::types::{Kind, Ty};
+use table::types::Ty;
 use table::{Fault, Place, open};
-
-const NUMBER: Ty = Ty {
-    kind: Kind::Number,
-    strukt: 0,
-    barred: 0,
-    withheld: 0,
-};
 
 // What the check says of a table, with scratch for so many types.
 pub fn judge(bytes: &[u8], scratch: &mut [Ty]) -> Result<(), Fault> {
@@ -99,20 +92,20 @@ mod tests {
 
     #[test]
     fn accepted(rt: HostRuntime) {
-        let mut scratch = [NUMBER; 128];
+        let mut scratch = [Ty::NUMBER; 128];
         assert_eq!(rt; judge(SEVEN, &mut scratch), Ok(()));
         assert_eq!(rt; judge(TREIBER, &mut scratch), Ok(()));
     }
 
     #[test]
     fn little_scratch(rt: HostRuntime) {
-        let mut scratch = [NUMBER; 127];
+        let mut scratch = [Ty::NUMBER; 127];
         let refusal = Fault::new(30, Place::Nothing);
         assert_eq!(rt; judge(SEVEN, &mut scratch), Err(refusal));
     }
 
     fn verdict(bytes: &[u8]) -> Result<(), Fault> {
-        let mut scratch = [NUMBER; 128];
+        let mut scratch = [Ty::NUMBER; 128];
         judge(bytes, &mut scratch)
     }
 

@@ -22,10 +22,7 @@ fn counted(answer: Result<(), Fault>) -> usize
     ensures value { (s : Result Taken Fault) → answer ≡ passes s → result ≡ took s }
     ensures most { result ≤ 1 }
 {
-    match answer {
-        Ok(()) => 1,
-        Err(_) => 0,
-    }
+    usize::from(answer.is_ok())
 }
 
 // Steps these threads in turn until so many steps were taken, and says how many were. A step that is refused changes nothing.

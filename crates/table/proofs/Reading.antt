@@ -1,87 +1,77 @@
 -- What the places of a table's bytes give of its program.
-use Rattle.std.proofs.Common.{◌≡◌, ℕ, ◌+◌, ◌*◌, ◌<◌, ◌≤◌, false, eqb, List, [], length, take, drop, Some, None, Err, Option, sym, refl, ap, ◌∙◌, add-one, arith}
+use Rattle.std.proofs.Common.{◌≡◌, ℕ, ◌<◌, false, eqb, List, [], length, Some, None, Ok, Err, Option, Result, IsErrAnd, refl, ap, ◌∙◌, arith}
 use Rattle.std.proofs.lemmas.Bool.Decides.{nat_tests}
-use Rattle.std.specs.List.{slice_get}
-use Rattle.std.specs.Option.{option_map}
-use Rattle.table.specs.declared.view.Lacking.TheVariants.{Missing}
-use Rattle.table.specs.Records.{Op, decoded}
-use Rattle.table.specs.Program.{contents, struct_total, struct_at, field_total, field_at, function_total, function_at, param_total, param_place, result_place, record_total, record_at, type_at, byte, struct_place, record_place}
-use Rattle.table.specs.Reading.{no_function, fields_of, function_of, field_of, param_of, result_of, present, record_of}
-use Rattle.table.proofs.Listing.{length_listing, get_d_listing, lacks_listing, nth_listing, past_listing}
-
-pub struct_read : (b : List ℕ) (s : ℕ) → s < struct_total b → fields_of (contents b) s ≡ struct_at b s
-struct_read b s h = get_d_listing (struct_total b) (struct_at b) s [] h
-
-pub struct_lacks : (b : List ℕ) (s : ℕ) → struct_total b ≤ s → fields_of (contents b) s ≡ []
-struct_lacks b s h = lacks_listing (struct_total b) (struct_at b) s [] h
-
-pub function_read : (b : List ℕ) (n : ℕ) → n < function_total b → function_of (contents b) n ≡ function_at b n
-function_read b n h = get_d_listing (function_total b) (function_at b) n no_function h
-
-pub function_lacks : (b : List ℕ) (n : ℕ) → function_total b ≤ n → function_of (contents b) n ≡ no_function
-function_lacks b n h = lacks_listing (function_total b) (function_at b) n no_function h
+use Rattle.std.proofs.lemmas.Result.{err_from_is_err_and}
+use Rattle.std.specs.Option.{option_map, ok_or}
+use Rattle.table.specs.declared.records.Record.{Record}
+use Rattle.table.specs.declared.view.Lacking.{Lacking}
+use Rattle.table.specs.declared.view.Lacking.TheVariants.{Missing, Undecodable}
+use Rattle.table.specs.Records.{meant_by, decoded}
+use Rattle.table.specs.Program.{contents, struct_total, struct_at, field_total, field_at, function_total, function_at, param_total, param_place, result_place, record_total, record_at, type_at}
+use Rattle.table.specs.Reading.{no_function, fields_of, function_of, field_of, param_of, result_of, present, record_of, within, found}
+use Rattle.table.proofs.Listing.{found_nth, missed_listing, missed_nth, part_counts, part_found, part_missed}
 
 -- counts
-pub field_counts : (b : List ℕ) (s : ℕ) → s < struct_total b → length (fields_of (contents b) s) ≡ field_total b s
-field_counts b s h = ap length (struct_read b s h) ∙ length_listing (field_total b s) (field_at b s)
+pub field_counts : (b : List ℕ) (s m k : ℕ) → m ≡ struct_total b → Some k ≡ within s m → length (fields_of (contents b) s) ≡ field_total b k
+field_counts b s m k e h = part_counts (λ fs. fs) (struct_total b) (struct_at b) [] s m k (field_total b k) (field_at b k) e h refl
 
-pub no_fields : (b : List ℕ) (s : ℕ) → struct_total b ≤ s → length (fields_of (contents b) s) ≡ 0
-no_fields b s h = ap length (struct_lacks b s h)
+pub param_counts : (b : List ℕ) (n m k : ℕ) → m ≡ function_total b → Some k ≡ within n m → length (function_of (contents b) n).params ≡ param_total b k
+param_counts b n m k e h = part_counts (λ fn. fn.params) (function_total b) (function_at b) no_function n m k (param_total b k) (λ i. type_at b (param_place b k i)) e h refl
 
-pub param_counts : (b : List ℕ) (n : ℕ) → n < function_total b → length (function_of (contents b) n).params ≡ param_total b n
-param_counts b n h = ap (λ fn. length fn.params) (function_read b n h) ∙ length_listing (param_total b n) (λ i. type_at b (param_place b n i))
-
-pub no_params : (b : List ℕ) (n : ℕ) → function_total b ≤ n → length (function_of (contents b) n).params ≡ 0
-no_params b n h = ap (λ fn. length fn.params) (function_lacks b n h)
-
-pub record_counts : (b : List ℕ) (n : ℕ) → n < function_total b → length (function_of (contents b) n).records ≡ record_total b n
-record_counts b n h = ap (λ fn. length fn.records) (function_read b n h) ∙ length_listing (record_total b n) (record_at b n)
-
-pub no_records : (b : List ℕ) (n : ℕ) → function_total b ≤ n → length (function_of (contents b) n).records ≡ 0
-no_records b n h = ap (λ fn. length fn.records) (function_lacks b n h)
+pub record_counts : (b : List ℕ) (n m k : ℕ) → m ≡ function_total b → Some k ≡ within n m → length (function_of (contents b) n).records ≡ record_total b k
+record_counts b n m k e h = part_counts (λ fn. fn.records) (function_total b) (function_at b) no_function n m k (record_total b k) (record_at b k) e h refl
 
 -- what is at a place that there is
-pub field_read : (b : List ℕ) (s f : ℕ) → s < struct_total b → f < field_total b s → field_of (contents b) s f ≡ Some (field_at b s f)
-field_read b s f l k = ap (λ fs. slice_get fs f) (struct_read b s l) ∙ nth_listing (field_total b s) (field_at b s) f k
+pub field_read : (b : List ℕ) (s m k f p q : ℕ) → m ≡ struct_total b → Some k ≡ within s m → p ≡ field_total b k → Some q ≡ within f p → field_of (contents b) s f ≡ Some (field_at b k q)
+field_read b s m k f p q e h g l = part_found (λ fs. fs) (struct_total b) (struct_at b) [] s m k (field_total b k) (field_at b k) f p q e h refl g l
 
-pub param_read : (b : List ℕ) (n i : ℕ) → n < function_total b → i < param_total b n → param_of (contents b) n i ≡ Some (type_at b (param_place b n i))
-param_read b n i l k = ap (λ fn. slice_get fn.params i) (function_read b n l) ∙ nth_listing (param_total b n) (λ j. type_at b (param_place b n j)) i k
+pub param_read : (b : List ℕ) (n m k i p q : ℕ) → m ≡ function_total b → Some k ≡ within n m → p ≡ param_total b k → Some q ≡ within i p → param_of (contents b) n i ≡ Some (type_at b (param_place b k q))
+param_read b n m k i p q e h g l = part_found (λ fn. fn.params) (function_total b) (function_at b) no_function n m k (param_total b k) (λ j. type_at b (param_place b k j)) i p q e h refl g l
 
-pub result_read : (b : List ℕ) (n : ℕ) → n < function_total b → result_of (contents b) n ≡ Some (type_at b (result_place b n))
-result_read b n h = ap (option_map (λ fn. fn.result)) (nth_listing (function_total b) (function_at b) n h)
+pub result_read : (b : List ℕ) (n m k : ℕ) → m ≡ function_total b → Some k ≡ within n m → result_of (contents b) n ≡ Some (type_at b (result_place b k))
+result_read b n m k e h = ap (option_map (λ fn. fn.result)) (found_nth (function_total b) (function_at b) n m k e h)
 
-pub record_read : (b : List ℕ) (n i : ℕ) → n < function_total b → i < record_total b n → record_of (contents b) n i ≡ present (Some (record_at b n i))
-record_read b n i l k = ap (λ fn. present (slice_get fn.records i)) (function_read b n l) ∙ ap present (nth_listing (record_total b n) (record_at b n) i k)
+pub record_read : (b : List ℕ) (n m k i p q : ℕ) → m ≡ function_total b → Some k ≡ within n m → p ≡ record_total b k → Some q ≡ within i p → record_of (contents b) n i ≡ present (Some (record_at b k q))
+record_read b n m k i p q e h g l = ap present (part_found (λ fn. fn.records) (function_total b) (function_at b) no_function n m k (record_total b k) (record_at b k) i p q e h refl g l)
 
 -- and where there is none
-pub struct_lacks_field : (b : List ℕ) (s f : ℕ) → struct_total b ≤ s → field_of (contents b) s f ≡ None
-struct_lacks_field b s f h = ap (λ fs. slice_get fs f) (struct_lacks b s h)
+pub no_fields : (b : List ℕ) (s m : ℕ) → m ≡ struct_total b → None ≡ within s m → fields_of (contents b) s ≡ []
+no_fields b s m e h = missed_listing (struct_total b) (struct_at b) [] s m e h
 
-pub field_lacks : (b : List ℕ) (s f : ℕ) → s < struct_total b → field_total b s ≤ f → field_of (contents b) s f ≡ None
-field_lacks b s f l k = ap (λ fs. slice_get fs f) (struct_read b s l) ∙ past_listing (field_total b s) (field_at b s) f k
+pub no_function_there : (b : List ℕ) (n m : ℕ) → m ≡ function_total b → None ≡ within n m → function_of (contents b) n ≡ no_function
+no_function_there b n m e h = missed_listing (function_total b) (function_at b) no_function n m e h
 
-pub function_lacks_param : (b : List ℕ) (n i : ℕ) → function_total b ≤ n → param_of (contents b) n i ≡ None
-function_lacks_param b n i h = ap (λ fn. slice_get fn.params i) (function_lacks b n h)
+pub field_lacks : (b : List ℕ) (s m k f p : ℕ) → m ≡ struct_total b → Some k ≡ within s m → p ≡ field_total b k → None ≡ within f p → field_of (contents b) s f ≡ None
+field_lacks b s m k f p e h g l = part_missed (λ fs. fs) (struct_total b) (struct_at b) [] s m k (field_total b k) (field_at b k) f p e h refl g l
 
-pub param_lacks : (b : List ℕ) (n i : ℕ) → n < function_total b → param_total b n ≤ i → param_of (contents b) n i ≡ None
-param_lacks b n i l k = ap (λ fn. slice_get fn.params i) (function_read b n l) ∙ past_listing (param_total b n) (λ j. type_at b (param_place b n j)) i k
+pub param_lacks : (b : List ℕ) (n m k i p : ℕ) → m ≡ function_total b → Some k ≡ within n m → p ≡ param_total b k → None ≡ within i p → param_of (contents b) n i ≡ None
+param_lacks b n m k i p e h g l = part_missed (λ fn. fn.params) (function_total b) (function_at b) no_function n m k (param_total b k) (λ j. type_at b (param_place b k j)) i p e h refl g l
 
-pub result_lacks : (b : List ℕ) (n : ℕ) → function_total b ≤ n → result_of (contents b) n ≡ None
-result_lacks b n h = ap (option_map (λ fn. fn.result)) (past_listing (function_total b) (function_at b) n h)
+pub result_lacks : (b : List ℕ) (n m : ℕ) → m ≡ function_total b → None ≡ within n m → result_of (contents b) n ≡ None
+result_lacks b n m e h = ap (option_map (λ fn. fn.result)) (missed_nth (function_total b) (function_at b) n m e h)
 
-pub function_lacks_record : (b : List ℕ) (n i : ℕ) → function_total b ≤ n → record_of (contents b) n i ≡ Err Missing
-function_lacks_record b n i h = ap (λ fn. present (slice_get fn.records i)) (function_lacks b n h)
+pub record_lacks : (b : List ℕ) (n m k i p : ℕ) → m ≡ function_total b → Some k ≡ within n m → p ≡ record_total b k → None ≡ within i p → record_of (contents b) n i ≡ Err Missing
+record_lacks b n m k i p e h g l = ap present (part_missed (λ fn. fn.records) (function_total b) (function_at b) no_function n m k (record_total b k) (record_at b k) i p e h refl g l)
 
-pub record_lacks : (b : List ℕ) (n i : ℕ) → n < function_total b → record_total b n ≤ i → record_of (contents b) n i ≡ Err Missing
-record_lacks b n i l k = ap (λ fn. present (slice_get fn.records i)) (function_read b n l) ∙ ap present (past_listing (record_total b n) (record_at b n) i k)
+-- A number that is not there leaves a record missing; what twelve bytes say is the record there.
+pub ok_or_some : {X : Type 0} (o : Option X) (e : Lacking) (x : X) → Ok x ≡ ok_or o e → Some x ≡ o
+ok_or_some None e x h = cc
+ok_or_some (Some y) e x h = cc
 
--- what twelve bytes say is the record there
-pub record_said : (b : List ℕ) (n i place : ℕ) (o : Option Op) → n < function_total b → i < record_total b n → place ≡ record_place b n i → o ≡ decoded (take 12 (drop place b)) → present (Some o) ≡ record_of (contents b) n i
-record_said b n i place o l k e h = ap (λ x. present (Some x)) h ∙ ap (λ q. present (Some (decoded (take 12 (drop q b))))) e ∙ sym (record_read b n i l k)
+pub ok_or_none : {X : Type 0} (o : Option X) (e d : Lacking) → Err d ≡ ok_or o e → None ≡ o
+ok_or_none None e d h = refl
+ok_or_none (Some y) e d h = cc
 
--- one struct on
-pub struct_more : (b : List ℕ) (s place fields : ℕ) → place ≡ struct_place b s → fields ≡ byte b place → place + (1 + 5 * fields) ≡ struct_place b (s + 1)
-struct_more b s place fields e h = rw (add-one, h, e) (omega arith)
+pub missing : {X : Type 0} (o : Option X) (d : Lacking) (r : Result Record Lacking) → Err d ≡ ok_or o Missing → IsErrAnd r (λ e. e ≡ d) → found r ≡ Err Missing
+missing None d r h k =
+    let p = err_from_is_err_and r k in
+    let e : d ≡ Missing = cc in
+    ap found p.1 ∙ ap Err (p.2 ∙ e)
+missing (Some x) d r h k = cc
+
+pub found_said : (o : Option Record) → found (ok_or o Undecodable) ≡ present (Some (meant_by o))
+found_said None = refl
+found_said (Some r) = refl
 
 -- fewer than twelve bytes say nothing
 pub short_says_nothing : (b : List ℕ) → length b < 12 → decoded b ≡ None

@@ -8,7 +8,6 @@ use Rattle.table.specs.declared.types.Ty.{Ty}
 use Rattle.table.specs.Types.{may_withhold, set_fits, is_number, keeps}
 use Rattle.table.specs.Program.{listing, contents, struct_total, struct_at}
 use Rattle.table.proofs.Listing.{length_listing, get_d_listing}
-use Rattle.table.proofs.Reading.{struct_read}
 
 pub drop_listing : {X : Type 0} (n : ℕ) (at : ℕ → X) (i : ℕ) → i < n → drop i (listing n at) ≡ at i ∷ drop (i + 1) (listing n at)
 drop_listing n at i h =
@@ -24,18 +23,12 @@ set_all k n at i m h =
     let e : length (listing n at) ≡ n = length_listing n at in
     ap (λ fs. set_fits k fs m) (drop_all i (listing n at) (omega arith))
 
--- a field that its set may not withhold, and one that passes
-pub set_refuses : (k : Kind) (n : ℕ) (at : ℕ → Field) (i m : ℕ) (field : Field) (all b : Bool) → i < n → field ≡ at i → set_fits k (drop i (listing n at)) m ≡ all
-    → b ≡ (eqb (m % 2) 0 || may_withhold k field) → b ≡ false → false ≡ all
-set_refuses k n at i m field all b h f inv e z =
-    let s : (eqb (m % 2) 0 || may_withhold k (at i)) ≡ false = ap (λ x. eqb (m % 2) 0 || may_withhold k x) (sym f) ∙ sym e ∙ z in
-    sym (sym inv ∙ set_more k n at i m h ∙ ap (λ x. x && set_fits k (drop (i + 1) (listing n at)) (m / 2)) s)
-
-pub set_passes : (k : Kind) (n : ℕ) (at : ℕ → Field) (i m : ℕ) (field : Field) (all b : Bool) → i < n → field ≡ at i → set_fits k (drop i (listing n at)) m ≡ all
-    → b ≡ (eqb (m % 2) 0 || may_withhold k field) → b ≡ true → set_fits k (drop (i + 1) (listing n at)) (m / 2) ≡ all
-set_passes k n at i m field all b h f inv e z =
-    let s : (eqb (m % 2) 0 || may_withhold k (at i)) ≡ true = ap (λ x. eqb (m % 2) 0 || may_withhold k x) (sym f) ∙ sym e ∙ z in
-    sym (sym inv ∙ set_more k n at i m h ∙ ap (λ x. x && set_fits k (drop (i + 1) (listing n at)) (m / 2)) s)
+-- one field on: whether its set may withhold it, and the fields behind it
+pub set_turn : (k : Kind) (n : ℕ) (at : ℕ → Field) (i m : ℕ) (field : Field) (all b : Bool) → i < n → field ≡ at i → set_fits k (drop i (listing n at)) m ≡ all
+    → b ≡ (eqb (m % 2) 0 || may_withhold k field) → (b && set_fits k (drop (i + 1) (listing n at)) (m / 2)) ≡ all
+set_turn k n at i m field all b h f inv e =
+    let s : b ≡ (eqb (m % 2) 0 || may_withhold k (at i)) = e ∙ ap (λ x. eqb (m % 2) 0 || may_withhold k x) f in
+    ap (λ x. x && set_fits k (drop (i + 1) (listing n at)) (m / 2)) s ∙ sym (set_more k n at i m h) ∙ inv
 
 -- a reference to a struct that is there, and to one that is not
 pub keeps_reference : (b : List ℕ) (t : Ty) (r : Bool) → t.barred ≡ 0 → is_number t.kind ≡ false → t.strukt < struct_total b
@@ -44,7 +37,7 @@ keeps_reference b t r z k h e =
     let n : length (contents b).structs ≡ struct_total b = length_listing (struct_total b) (struct_at b) in
     let x : eqb t.barred 0 ≡ true = grind (arith, nat_tests) in
     let y : ltb t.strukt (length (contents b).structs) ≡ true = grind (arith, nat_tests) in
-    let g : get_or (contents b).structs t.strukt [] ≡ struct_at b t.strukt = struct_read b t.strukt h in
+    let g : get_or (contents b).structs t.strukt [] ≡ struct_at b t.strukt = get_d_listing (struct_total b) (struct_at b) t.strukt [] h in
     rw (x, k, y, g) e
 
 pub lacks_struct : (b : List ℕ) (t : Ty) → t.barred ≡ 0 → is_number t.kind ≡ false → struct_total b ≤ t.strukt → false ≡ keeps (contents b).structs t

@@ -1,5 +1,5 @@
 -- What a program has at each place, and the program that an opened table stands for.
-use Rattle.std.specs.Prelude.{ℕ, List, [], Some, None, Ok, Err, Option, Result, slice_index_or}
+use Rattle.std.specs.Prelude.{ℕ, List, [], Some, None, Ok, Err, Option, Result, cond, nat_lt, slice_index_or}
 use Rattle.std.specs.List.{slice_get}
 use Rattle.std.specs.Option.{option_map}
 use Rattle.table.specs.declared.fault.Fault.{Fault}
@@ -34,6 +34,10 @@ param_of p n i = slice_get (function_of p n).params i
 
 abbrev pub result_of : Program → ℕ → Option Ty
 result_of p n = option_map (λ fn. fn.result) (slice_get p.functions n)
+
+-- a number below a total
+abbrev pub within : ℕ → ℕ → Option ℕ
+within i total = cond (nat_lt i total) (Some i) None
 
 -- a record that is not there, and one that says nothing
 abbrev pub present : Option (Option Op) → Result Op Lacking

@@ -1,5 +1,6 @@
 -- Records, taken apart by their ops.
 use Rattle.std.specs.Prelude.{ℕ, ◌+◌, ◌*◌, ◌/◌, ◌%◌, ◌^◌, Bool, true, false, cond, ◌&&◌, ◌||◌, List, [], ◌∷◌, length, take, drop, Some, None, Option, ◌==◌, nat_lt, slice_index, slice_index_or}
+use Rattle.std.specs.List.{list_all}
 use Rattle.table.specs.declared.records.Test.{Test}
 use Rattle.table.specs.declared.records.Test.TheVariants.{Nil, Same, Equal, Less, Link, Unlink, Swap, Try, Fix, Stable}
 use Rattle.table.specs.declared.records.Record.{Record}
@@ -88,8 +89,7 @@ abbrev pub form_of : ℕ → Form
 form_of op = slice_index_or forms op no_op
 
 abbrev pub zeros : List ℕ → Bool
-zeros [] = true
-zeros (x ∷ xs) = x == 0 && zeros xs
+zeros = list_all (λ x. x == 0)
 
 -- unused bytes are 0
 abbrev pub fits : Form → ℕ → List ℕ → ℕ → Bool

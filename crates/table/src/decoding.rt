@@ -9,19 +9,18 @@ use super::records::{Record, Test};
 pub fn decode<'t>(bytes: &'t [u8]) -> Option<Record<'t>>
     ensures { meant_by result ≡ decoded bytes.now }
 {
-    let [op, slot, _, _, _, _, _, _, n0, n1, n2, n3] = bytes else {
+    let [op, slot, operands @ .., n0, n1, n2, n3] = bytes else {
         return None;
     };
     let number = u32::from_le_bytes([*n0, *n1, *n2, *n3]);
-    if !Form::of(*op).fits(*slot, &bytes[2..8], number) {
+    if operands.len() != 6 || !Form::of(*op).fits(*slot, operands, number) {
         return None;
     }
     if *op < 16 {
         return decode_op(bytes, number);
     }
-    let test = decode_test(bytes)?;
     Some(Record::Ask {
-        test,
+        test: decode_test(bytes)?,
         yes: (number % 65536) as u16,
         no: (number / 65536) as u16,
     })
@@ -29,10 +28,11 @@ pub fn decode<'t>(bytes: &'t [u8]) -> Option<Record<'t>>
 
 // The ops 1 to 15.
 fn decode_op<'t>(bytes: &'t [u8], number: u32) -> Option<Record<'t>>
-    requires { (length bytes.now ≡ 12) × (number ≡ number_of bytes.now) }
+    requires twelve { length bytes.now ≡ 12 }
+    requires last_four { number ≡ number_of bytes.now }
     ensures { meant_by result ≡ op_of bytes.now }
 {
-    let [op, z, x, f, y, _, _, _, _, _, _, _] = bytes else {
+    let [op, z, x, f, y, ..] = bytes else {
         return None;
     };
     // `add` has y where the others have f.
@@ -66,10 +66,10 @@ fn decode_op<'t>(bytes: &'t [u8], number: u32) -> Option<Record<'t>>
 
 // The ops 16 to 25.
 fn decode_test(bytes: &[u8]) -> Option<Test>
-    requires { length bytes.now ≡ 12 }
+    requires twelve { length bytes.now ≡ 12 }
     ensures { result ≡ test_of bytes.now }
 {
-    let [op, _, x, f, y, g, _, _, _, _, _, _] = bytes else {
+    let [op, _, x, f, y, g, ..] = bytes else {
         return None;
     };
     // A test of two slots alone has y where the others have f.

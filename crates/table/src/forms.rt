@@ -1,6 +1,6 @@
 // What each op uses of a record's bytes.
 ghost use Rattle.std.specs.Prelude.{◌≡◌, drop};
-ghost use Rattle.table.specs.Records.{form_of, fits, zeros};
+ghost use Rattle.table.specs.Records.{binding, silent, asking, form_of, fits, zeros};
 
 // What an op uses of a record: whether it binds a slot, how many operand bytes it reads, below what its number stays.
 #[derive(Clone, Copy, Drop)]
@@ -17,98 +17,73 @@ const NO_OP: Form = Form {
     limit: 0,
 };
 
-const INT: Form = Form {
-    binds: true,
-    operands: 0,
-    limit: 0x8000_0000,
-};
+// Such a record binds a slot.
+fn binding(operands: usize) -> Form
+    ensures { result ≡ binding operands }
+{
+    Form {
+        binds: true,
+        operands,
+        limit: 1,
+    }
+}
 
-const JOIN: Form = Form {
-    binds: false,
-    operands: 0,
-    limit: 0x1_0000_0000,
-};
+// Such a record binds none.
+fn silent(operands: usize) -> Form
+    ensures { result ≡ silent operands }
+{
+    Form {
+        binds: false,
+        operands,
+        limit: 1,
+    }
+}
 
-const BINDS_1: Form = Form {
-    binds: true,
-    operands: 1,
-    limit: 1,
-};
-
-const BINDS_2: Form = Form {
-    binds: true,
-    operands: 2,
-    limit: 1,
-};
-
-const BINDS_3: Form = Form {
-    binds: true,
-    operands: 3,
-    limit: 1,
-};
-
-const BINDS_6: Form = Form {
-    binds: true,
-    operands: 6,
-    limit: 1,
-};
-
-const SILENT_1: Form = Form {
-    binds: false,
-    operands: 1,
-    limit: 1,
-};
-
-const SILENT_6: Form = Form {
-    binds: false,
-    operands: 6,
-    limit: 1,
-};
-
-const ASKS_1: Form = Form {
-    binds: false,
-    operands: 1,
-    limit: 0x1_0000_0000,
-};
-
-const ASKS_2: Form = Form {
-    binds: false,
-    operands: 2,
-    limit: 0x1_0000_0000,
-};
-
-const ASKS_3: Form = Form {
-    binds: false,
-    operands: 3,
-    limit: 0x1_0000_0000,
-};
-
-const ASKS_4: Form = Form {
-    binds: false,
-    operands: 4,
-    limit: 0x1_0000_0000,
-};
-
-// The forms of the ops, from 0 on.
-const FORMS: [Form; 26] = [
-    NO_OP, BINDS_1, BINDS_1, INT, BINDS_1, BINDS_1, BINDS_2, BINDS_2, BINDS_3, BINDS_2, BINDS_6,
-    SILENT_6, SILENT_1, SILENT_6, JOIN, SILENT_1, ASKS_1, ASKS_2, ASKS_2, ASKS_2, ASKS_4, ASKS_4,
-    ASKS_4, ASKS_3, ASKS_3, ASKS_2,
-];
+// A test's number is its two counts.
+fn asking(operands: usize) -> Form
+    ensures { result ≡ asking operands }
+{
+    Form {
+        binds: false,
+        operands,
+        limit: 0x1_0000_0000,
+    }
+}
 
 impl Form {
     pub fn of(op: u8) -> Form
         ensures { result ≡ form_of op }
     {
-        let i = op as usize;
-        if i < 26 { FORMS[i] } else { NO_OP }
+        match op {
+            1 | 2 | 4 | 5 => binding(1),
+            3 => Form {
+                binds: true,
+                operands: 0,
+                limit: 0x8000_0000,
+            },
+            6 | 7 | 9 => binding(2),
+            8 => binding(3),
+            10 => binding(6),
+            11 | 13 => silent(6),
+            12 | 15 => silent(1),
+            14 => Form {
+                binds: false,
+                operands: 0,
+                limit: 0x1_0000_0000,
+            },
+            16 => asking(1),
+            17..=19 | 25 => asking(2),
+            20..=22 => asking(4),
+            23 | 24 => asking(3),
+            _ => NO_OP,
+        }
     }
 
     // Unused bytes are 0.
     pub fn fits(self, slot: u8, operands: &[u8], number: u32) -> bool
         ensures { result ≡ fits self slot operands.now number }
     {
-        (number as u64) < self.limit
+        u64::from(number) < self.limit
             && (self.binds || slot == 0)
             && zeros_from(operands, self.operands)
     }
@@ -118,10 +93,5 @@ impl Form {
 pub fn zeros_from(bytes: &[u8], place: usize) -> bool
     ensures { result ≡ zeros (drop place bytes.now) }
 {
-    for i in place..bytes.len() {
-        if bytes[i] != 0 {
-            return false;
-        }
-    }
-    true
+    bytes.iter().skip(place).all(|byte| *byte == 0)
 }

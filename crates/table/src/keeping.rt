@@ -4,7 +4,7 @@ ghost use Rattle.table.specs.Types.{may_withhold, set_fits, keeps, field_keeps};
 ghost use Rattle.table.specs.Program.{struct_at, struct_total};
 ghost use Rattle.table.specs.Reading.{bytes_of, program_of};
 
-use super::types::{Field, Kind, Ty};
+use super::types::{Field, Kind, Mode, Ty};
 use super::view::Table;
 
 // Whether a type of this kind may withhold a field.
@@ -13,8 +13,9 @@ pub fn may_withhold(kind: Kind, field: Field) -> bool
 {
     match kind {
         Kind::Number => false,
-        Kind::Alias | Kind::Owned => !field.mode.is_var() && !field.ty.kind.is_number(),
-        Kind::Pristine => (field.mode.is_val() || field.mode.is_spec()) && field.ty.kind.is_owned(),
+        Kind::Alias | Kind::Owned => field.mode != Mode::Var && field.ty.kind != Kind::Number,
+        Kind::Pristine => matches!(field.mode, Mode::Val | Mode::Spec)
+            && field.ty.kind == Kind::Owned,
     }
 }
 
@@ -26,8 +27,7 @@ fn first_fits(kind: Kind, field: Field, set: u8) -> bool
 }
 
 // Whether a set withholds only what it may of a struct's fields.
-fn set_fits(table: &Table, kind: Kind, s: usize, set: u8) -> bool
-    requires { (s < struct_total (bytes_of table.now)) × (s ≤ 255) }
+fn set_fits(table: &Table, kind: Kind, s: u8, set: u8) -> bool
     ensures { result ≡ set_fits kind (struct_at (bytes_of table.now) s) set }
 {
     let mut rest = set;
@@ -46,14 +46,10 @@ pub fn keeps_rules(table: &Table, ty: Ty) -> bool
     if ty.barred != 0 {
         return false;
     }
-    if ty.kind.is_number() {
+    if ty.kind == Kind::Number {
         return ty.strukt == 0 && ty.withheld == 0;
     }
-    let s = ty.strukt as usize;
-    if s >= table.struct_total() {
-        return false;
-    }
-    set_fits(table, ty.kind, s, ty.withheld)
+    ty.strukt < table.struct_total() && set_fits(table, ty.kind, ty.strukt, ty.withheld)
 }
 
 // Whether a field keeps the rules of its type and of its mode.
@@ -61,9 +57,8 @@ pub fn field_keeps_rules(table: &Table, field: Field) -> bool
     ensures { result ≡ field_keeps (program_of table.now).structs field }
 {
     let kind = field.ty.kind;
-    let plain = field.mode.is_var() || field.mode.is_val();
     keeps_rules(table, field.ty)
-        && !kind.is_pristine()
+        && kind != Kind::Pristine
         && field.ty.withheld == 0
-        && (plain || !kind.is_number())
+        && (matches!(field.mode, Mode::Var | Mode::Val) || kind != Kind::Number)
 }

@@ -3,8 +3,9 @@ ghost use Rattle.std.specs.Prelude.{◌≡◌};
 ghost use Rattle.table.specs.Types.{kind_of, mode_of, type_of, is_number, is_alias, is_owned, is_pristine, is_var, is_val, is_once, is_spec};
 
 // What a slot or a field of a type may hold.
-#[derive(Clone, Copy, Drop)]
+#[derive(Clone, Copy, Debug, Default, PartialEq, Eq, Drop)]
 pub enum Kind {
+    #[default]
     Number = 0,
     Alias = 1,
     Owned = 2,
@@ -12,8 +13,9 @@ pub enum Kind {
 }
 
 // How a field may be written.
-#[derive(Clone, Copy, Drop)]
+#[derive(Clone, Copy, Debug, Default, PartialEq, Eq, Drop)]
 pub enum Mode {
+    #[default]
     Var = 0,
     Val = 1,
     Once = 2,
@@ -21,7 +23,7 @@ pub enum Mode {
 }
 
 // The four bytes of a type. `barred` is 0 in every type that is in use; bit f of `withheld` withholds field f.
-#[derive(Clone, Copy, Drop)]
+#[derive(Clone, Copy, Debug, Default, PartialEq, Eq, Drop)]
 pub struct Ty {
     pub kind: Kind,
     pub strukt: u8,
@@ -29,17 +31,35 @@ pub struct Ty {
     pub withheld: u8,
 }
 
-#[derive(Clone, Copy, Drop)]
+#[derive(Clone, Copy, Debug, Default, PartialEq, Eq, Drop)]
 pub struct Field {
     pub mode: Mode,
     pub ty: Ty,
 }
 
-impl Kind {
-    // The kind of a type's first byte; `open` has refused a byte above 3.
-    pub fn of(byte: u8) -> Kind
-        ensures { result ≡ kind_of byte }
-    {
+impl Ty {
+    // A number, which also stands for a type that is not there.
+    pub const NUMBER: Ty = Ty {
+        kind: Kind::Number,
+        strukt: 0,
+        barred: 0,
+        withheld: 0,
+    };
+}
+
+impl Field {
+    // What stands for a field that is not there.
+    pub const NONE: Field = Field {
+        mode: Mode::Var,
+        ty: Ty::NUMBER,
+    };
+}
+
+// The kind of a type's first byte; `open` has refused a byte above 3.
+impl From<u8> for Kind {
+    ghost from_gives = { λ byte kind. kind ≡ kind_of byte };
+
+    fn from(byte: u8) -> Kind {
         match byte {
             0 => Kind::Number,
             1 => Kind::Alias,
@@ -47,7 +67,9 @@ impl Kind {
             _ => Kind::Pristine,
         }
     }
+}
 
+impl Kind {
     pub fn is_number(self) -> bool
         ensures { result ≡ is_number self }
     {
@@ -73,11 +95,11 @@ impl Kind {
     }
 }
 
-impl Mode {
-    // The mode of a field's first byte; `open` has refused a byte above 3.
-    pub fn of(byte: u8) -> Mode
-        ensures { result ≡ mode_of byte }
-    {
+// The mode of a field's first byte; `open` has refused a byte above 3.
+impl From<u8> for Mode {
+    ghost from_gives = { λ byte mode. mode ≡ mode_of byte };
+
+    fn from(byte: u8) -> Mode {
         match byte {
             0 => Mode::Var,
             1 => Mode::Val,
@@ -85,7 +107,9 @@ impl Mode {
             _ => Mode::Spec,
         }
     }
+}
 
+impl Mode {
     pub fn is_var(self) -> bool
         ensures { result ≡ is_var self }
     {

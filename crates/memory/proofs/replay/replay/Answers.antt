@@ -1,11 +1,10 @@
-use Rattle.std.proofs.Common.{◌≡◌, ℕ, ◌+◌, ◌≤◌, Bool, cond, sym, ap, ◌∙◌, arith}
+use Rattle.std.proofs.Common.{◌≡◌, ℕ, Bool, cond, sym, ap, ◌∙◌, arith, rules}
 use Rattle.std.proofs.lemmas.List.{at_drop_more, at_drop_all}
 use Rattle.memory.specs.Calls.{accepted_of, after_calls}
 use Rattle.memory.specs.declared.replay.Call.{Call}
 use Rattle.memory.specs.declared.replay.Call.TheVariants.{Add}
 use Rattle.memory.proofs.Lasting.{calls_keep}
 use Rattle.memory.proofs.replay.replay.Goals as goal
-use Rattle.memory.proofs.replay.replay.Goals.{then-make, else-make}
 
 abbrev none : Call
 none = Add 0
@@ -17,13 +16,13 @@ loop-call-preserved g c =
     let i = c.loop-call.call-index in
     let a = at_drop_more (accepted_of m) xs i none c.loop-call-test.true in
     let b = at_drop_more (after_calls m) xs i none c.loop-call-test.true in
-    let one = ap (λ (b : Bool). cond {A = ℕ} b 1 0) c.make.ensures.value in
-    let n : c.if-make.accepted ≡ c.loop-call.accepted + cond c.make.result 1 0 = elim c.if-make.branch [
-      | then-make w ↦ rw w.if-make.true w.accepted-is
-      | else-make w ↦ rw w.if-make.false (omega (arith, w.accepted-is))
-    ] in
-    let few : c.if-make.accepted ≤ i + 1 = elim c.if-make.branch [ then-make w ↦ omega (arith, w.accepted-is) | else-make w ↦ omega (arith, w.accepted-is) ] in
-    rw c.make.ensures.after ((few, omega (arith, n, one, a, c.loop-call.invariant.1), sym b ∙ c.loop-call.invariant.2))
+    let one : c.from-accepted.result ≡ cond c.make.result 1 0 = search rules in
+    let made = one ∙ ap (λ (b : Bool). cond {A = ℕ} b 1 0) c.make.ensures.value in
+    rw c.make.ensures.after (record {
+      few = grind (arith, one);
+      value = omega (arith, made, a, c.loop-call.invariant.value);
+      after = sym b ∙ c.loop-call.invariant.after;
+    })
 
 pub returns : goal.returns
 returns g c =
@@ -32,9 +31,9 @@ returns g c =
     let xs = c.args.calls.now in
     let i = c.loop-call.call-index in
     let a = at_drop_all (accepted_of m) xs i c.loop-call-test.false in
-    let after = sym (at_drop_all (after_calls m) xs i c.loop-call-test.false) ∙ c.loop-call.invariant.2 in
+    let after = sym (at_drop_all (after_calls m) xs i c.loop-call-test.false) ∙ c.loop-call.invariant.after in
     record {
-      value = omega (arith, a, c.loop-call.invariant.1);
+      value = omega (arith, a, c.loop-call.invariant.value);
       after = after;
       keeps = rw after (calls_keep start xs);
     }

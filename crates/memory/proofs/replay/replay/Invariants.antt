@@ -6,6 +6,8 @@ use Rattle.memory.proofs.replay.replay.Given as goal
 abbrev pub invariant-loop-call : goal.invariant-loop-call
 invariant-loop-call g l =
     let m = g.M.Memory.model in
-    (l.accepted ≤ l.call-index)
-    × (l.accepted + accepted_of (m l.memory) (drop l.call-index l.calls) ≡ accepted_of (m l.initial.memory) l.calls)
-    × (after_calls (m l.memory) (drop l.call-index l.calls) ≡ after_calls (m l.initial.memory) l.calls)
+    record {
+      few : l.accepted ≤ l.call-index;
+      value : l.accepted + accepted_of (m l.memory) (drop l.call-index l.calls) ≡ accepted_of (m l.initial.memory) l.calls;
+      after : after_calls (m l.memory) (drop l.call-index l.calls) ≡ after_calls (m l.initial.memory) l.calls;
+    }

@@ -1,28 +1,21 @@
-use Rattle.std.proofs.Common.{◌+◌, ◌<◌, ◌≤◌, min, length, drop, sym, ap, ◌∙◌, arith}
-use Rattle.safety.specs.Owners.{slots_owning}
-use Rattle.owning.proofs.Sums.{moves, ends, slots_more, slots_all}
+use Rattle.std.proofs.Common.{rules, tests, ◌==◌, ◌∙◌}
+use Rattle.std.specs.Prelude.{zip}
+use Rattle.std.proofs.lemmas.Iterator.{YieldsList-from_slice, YieldsList-from_zip}
+use Rattle.std.proofs.lemmas.Iterator.Consumers.{YieldsList-at, YieldsList-from_filter, count_from_yields_List}
+use Rattle.std.proofs.lemmas.List.Sums.{length-filter}
+use Rattle.table.specs.declared.types.Ty.{Ty}
+use Rattle.machine.specs.declared.threads.Slot.{Slot}
+use Rattle.safety.specs.Owners.{owns}
+use Rattle.owning.proofs.Sums.{slots_counted}
 use Rattle.owning.proofs.counting.slots_owning.Goals as goal
 
-pub loop-i-preserved : goal.loop-i-preserved
-loop-i-preserved c =
+pub returns-clause-value : goal.returns-clause-value
+returns-clause-value c =
     let ts = c.args.types.now in
     let vs = c.args.slots.now in
-    let i = c.loop-i.i in
-    let typed : i < length ts = omega arith in
-    let there : i < length vs = omega arith in
-    let more = slots_owning (drop (i + 1) ts) (drop (i + 1) vs) c.args.object in (
-      omega arith,
-      moves c.loop-i.total c.owns-total.result more (slots_owning (drop i ts) (drop i vs) c.args.object) (slots_owning ts vs c.args.object) c.loop-i.invariant.1
-          (slots_more ts vs i c.args.object typed there ∙ ap (λ n. n + more) (sym c.owns-total.ensures.value)),
-    )
-
-pub returns : goal.returns
-returns c =
-    let ts = c.args.types.now in
-    let vs = c.args.slots.now in
-    let i = c.loop-i.i in
-    let end : min (length ts) (length vs) ≤ i = omega arith in
-    record {
-      value = ends c.loop-i.total (slots_owning (drop i ts) (drop i vs) c.args.object) (slots_owning ts vs c.args.object) c.loop-i.invariant.1 (slots_all ts vs i c.args.object end);
-      few = omega arith;
-    }
+    let o = c.args.object in
+    let test = λ (x : Ty × Slot). owns x.0 x.1 o == 1 in
+    let pairs = YieldsList-from_zip (YieldsList-at c.zip.ensures.first (YieldsList-from_slice ts cc)) (YieldsList-at c.zip.ensures.second (YieldsList-from_slice vs cc)) in
+    count_from_yields_List _ c.count.result c.count.ensures.ran (YieldsList-from_filter _ test (YieldsList-at c.filter.ensures.source pairs) c.filter.ensures.closure (λ x b q k. search (rules, tests)))
+    ∙ length-filter test (zip ts vs)
+    ∙ slots_counted ts vs o

@@ -1,20 +1,13 @@
-use Rattle.std.proofs.Common.{List, [], map, arith}
-use Rattle.std.proofs.lemmas.List.{at_drop_more, at_drop_all}
+use Rattle.std.proofs.Common.{rules, ◌≡◌, List, cond, map, refl, sym, ◌∙◌}
+use Rattle.std.specs.Prelude.{count_by}
+use Rattle.std.proofs.lemmas.List.Recursion.{is_sum_by}
 use Rattle.machine.specs.declared.threads.Thread.{Thread}
-use Rattle.machine.specs.declared.threads.Status.TheVariants.{Running}
 use Rattle.machine.specs.World.{task_of}
-use Rattle.rehearsing.specs.Reports.{how_many}
+use Rattle.rehearsing.specs.Reports.{is_status, how_many}
 use Rattle.rehearsing.proofs.tally.how_many.Goals as goal
-
-abbrev no_thread : Thread
-no_thread = record { status = Running; depth = 0; frames = [] }
-
-pub loop-thread-preserved : goal.loop-thread-preserved
-loop-thread-preserved c =
-    let m = at_drop_more (λ (ts : List Thread). how_many c.args.status (map task_of ts)) c.args.threads.now c.loop-thread.thread-index no_thread c.loop-thread-test.true in
-    (omega (arith, c.one-count.ensures.most, c.loop-thread.invariant.0), omega (arith, m, c.one-count.ensures.value, c.loop-thread.invariant.1))
 
 pub returns : goal.returns
 returns c =
-    let m = at_drop_all (λ (ts : List Thread). how_many c.args.status (map task_of ts)) c.args.threads.now c.loop-thread.thread-index c.loop-thread-test.false in
-    omega (arith, m, c.loop-thread.invariant.1)
+    let s = c.args.status in
+    let counted : c.count.result ≡ count_by (λ (t : Thread). is_status s t.status) c.args.threads.now = search rules in
+    counted ∙ sym (is_sum_by (λ (ts : List Thread). how_many s (map task_of ts)) (λ (t : Thread). cond (is_status s t.status) 1 0) refl (λ t ts. refl) c.args.threads.now)

@@ -1,15 +1,10 @@
-use Rattle.std.proofs.Common.{◌<◌, ◌≤◌, sym, ◌∙◌, arith}
+use Rattle.std.proofs.Common.{length, sym, ap, ◌∙◌}
 use Rattle.table.specs.Reading.{bytes_of}
-use Rattle.table.specs.Program.{struct_total}
 use Rattle.table.proofs.Reading.{field_counts, no_fields}
 use Rattle.table.proofs.view.Table.fields.Goals as goal
 
-pub returns-then-s-struct_total : goal.returns-then-s-struct_total
-returns-then-s-struct_total c =
-    let h : c.args.s < struct_total (bytes_of c.args.self.now) = omega arith in
-    record { value = c.field_total.ensures.value ∙ sym (field_counts (bytes_of c.args.self.now) c.args.s h); bound = omega arith }
+pub returns-in-Some-clause-value : goal.returns-in-Some-clause-value
+returns-in-Some-clause-value c = c.from.ensures ∙ c.field_total.ensures ∙ sym (field_counts (bytes_of c.args.self.now) c.args.s c.struct_total.result c.in-Some.s c.struct_total.ensures c.in-Some.ensures)
 
-pub returns-else-s-struct_total : goal.returns-else-s-struct_total
-returns-else-s-struct_total c =
-    let h : struct_total (bytes_of c.args.self.now) ≤ c.args.s = omega arith in
-    record { value = sym (no_fields (bytes_of c.args.self.now) c.args.s h); bound = omega arith }
+pub returns-in-None-clause-value : goal.returns-in-None-clause-value
+returns-in-None-clause-value c = sym (ap length (no_fields (bytes_of c.args.self.now) c.args.s c.struct_total.result c.struct_total.ensures c.in-None.ensures))

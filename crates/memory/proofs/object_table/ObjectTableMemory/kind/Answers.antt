@@ -1,7 +1,0 @@
-use Rattle.std.proofs.Common.{rules}
-use lib.Seq.{take-set-lt}
-use Rattle.std.proofs.lemmas.List.{get_or-take, take_more_set, length-take}
-use Rattle.memory.proofs.object_table.ObjectTableMemory.kind.Goals as goal
-
-pub returns : goal.returns
-returns c = search (rules, get_or-take, take-set-lt, take_more_set, length-take)
