@@ -1,5 +1,6 @@
 -- What a bounded list holds.
 use Rattle.std.specs.Prelude.{ℕ, ◌-◌, cond, List, [], ◌∷◌, ◌++◌, length, take, Some, None, Option, nat_lt}
+use Rattle.std.specs.Borrow.{GName}
 use Rattle.list.specs.declared.Bounded.{Bounded}
 
 abbrev pub held : {X : Type 0} → Bounded X → List X
@@ -22,3 +23,7 @@ last_of (x ∷ (y ∷ ys)) = last_of (y ∷ ys)
 -- all items but the last
 abbrev pub popped : {X : Type 0} → List X → List X
 popped xs = take (length xs - 1) xs
+
+-- the slice that it lies over, by the name of its loan
+abbrev pub slice : {X : Type 0} → Bounded X → GName
+slice s = s.items.ghost_name

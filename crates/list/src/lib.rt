@@ -1,9 +1,15 @@
 // A list over a slice that its caller lends: types in scope, open blocks, and numbers put out.
 #![tactic(auto)]
 
-ghost use Rattle.std.specs.Prelude.{◌≡◌, ◌+◌, ◌-◌, ◌<◌, ◌≤◌, ltb, [], length, if◌then◌else◌, nat_lt, slice_set};
-ghost use Rattle.list.specs.Held.{held, room, pushed, last_of, popped};
+ghost use Rattle.std.specs.Prelude.{◌≡◌, ◌+◌, ◌-◌, ◌≤◌, ltb, [], length, take, nat_lt, if◌then◌else◌, slice_set};
+ghost use Rattle.list.specs.Held.{held, room, slice, pushed, last_of, popped};
 
+mod fronts;
+
+pub use fronts::Front;
+
+// No heap: the slice is the caller's, and the count says how much of it is in use. No invariant: `held` is defined for any count, and a
+// bound where it is read is plainer than a proof where it is written.
 #[derive(Drop)]
 pub struct Bounded<'a, T> {
     items: &'a mut [T],
@@ -15,13 +21,15 @@ impl<'a, T: Copy> Bounded<'a, T> {
     pub fn new(items: &'a mut [T]) -> Bounded<'a, T>
         ensures held { held result ≡ [] }
         ensures room { room result ≡ length items.old }
+        ensures slice { slice result ≡ items.entry.ghost_name }
     {
         Bounded { items, len: 0 }
     }
 
     pub fn len(&self) -> usize
         ensures value { result ≡ length (held self.now) }
-        ensures bound { (result ≤ self.now.len) × (result ≤ length self.now.items.now) }
+        ensures bound { result ≤ self.now.len }
+        ensures within { result ≤ length self.now.items.now }
     {
         self.len.min(self.items.len())
     }
@@ -46,7 +54,9 @@ impl<'a, T: Copy> Bounded<'a, T> {
         ensures value { result ≡ nat_lt (length (held self.old)) (room self.old) }
         ensures held { held self.new ≡ pushed (room self.old) (held self.old) x }
         ensures room { room self.new ≡ room self.old }
+        ensures slice { slice self.new ≡ slice self.old }
     {
+        // Not by `append`: its answer would be compared again to say whether there was room.
         let n = self.len();
         if n >= self.items.len() {
             return false;
@@ -59,12 +69,7 @@ impl<'a, T: Copy> Bounded<'a, T> {
     pub fn last(&self) -> Option<T>
         ensures { result ≡ last_of (held self.now) }
     {
-        let n = self.len();
-        if n == 0 {
-            return None;
-        }
-        let items: &[T] = &*self.items;
-        Some(items[n - 1])
+        self.all().last().copied()
     }
 
     // Takes the last item off, if there is one.
@@ -72,24 +77,31 @@ impl<'a, T: Copy> Bounded<'a, T> {
         ensures value { result ≡ last_of (held self.old) }
         ensures held { held self.new ≡ popped (held self.old) }
         ensures room { room self.new ≡ room self.old }
+        ensures slice { slice self.new ≡ slice self.old }
     {
         let top = self.last();
-        let n = self.len();
-        if n > 0 {
-            self.len = n - 1;
-        }
+        self.truncate(self.len().saturating_sub(1));
         top
     }
 
-    // Appends x, and gives the slice back with the number of its items.
-    fn grown(self, x: T) -> usize
-        requires { self.len < length self.items.now }
-        ensures items { self.exit.0.now ≡ slice_set self.entry.items.now self.entry.len x }
-        ensures len { result ≡ self.entry.len + 1 }
+    // Leaves the first n items.
+    pub fn truncate(&mut self, n: usize)
+        ensures held { held self.new ≡ take n (held self.old) }
+        ensures room { room self.new ≡ room self.old }
+        ensures slice { slice self.new ≡ slice self.old }
     {
-        let n = self.len;
-        self.items[n] = x;
-        n + 1
+        self.len = self.len().min(n);
+    }
+
+    // Writes x over item i, if there is one.
+    pub fn set(&mut self, i: usize, x: T)
+        ensures held { held self.new ≡ slice_set (held self.old) i x }
+        ensures room { room self.new ≡ room self.old }
+        ensures slice { slice self.new ≡ slice self.old }
+    {
+        if i < self.len() {
+            self.items[i] = x;
+        }
     }
 }
 
@@ -101,6 +113,6 @@ pub fn append<T: Copy>(items: &mut [T], len: usize, x: T) -> usize
     if len >= items.len() {
         return len;
     }
-    let list = Bounded { items, len };
-    list.grown(x)
+    items[len] = x;
+    len + 1
 }

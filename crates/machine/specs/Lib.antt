@@ -6,7 +6,6 @@ pub mod Ways
 pub mod Steps
 pub mod Clashes
 pub mod Alone
-pub mod Numbers
 pub mod Seeing
 pub mod Trying
 pub mod Stacks

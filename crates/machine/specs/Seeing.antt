@@ -7,7 +7,8 @@ use Rattle.machine.specs.declared.threads.Slot.{Slot}
 use Rattle.machine.specs.declared.threads.Slot.TheVariants.{Empty, Null, Number, Reference}
 use Rattle.machine.specs.declared.reading.Target.{Target}
 use Rattle.machine.specs.declared.reading.Pair.{Pair}
-use Rattle.machine.specs.Reading.{fields, field}
+use Rattle.machine.specs.Values.{object_of}
+use Rattle.machine.specs.Reading.{fields, field, cell}
 
 abbrev pub seen : Program → Store → Slot → ℕ → Option Field
 seen p m Empty f = None
@@ -24,6 +25,10 @@ targeted p m (Reference o) f =
     cond (has_object m o)
     (cond (nat_lt f (length (fields p m (Reference o)))) (Ok (Some (record { object = o; field = field p m (Reference o) f; cell = cell_at m o f }))) (Err 73))
     (Err 74)
+
+-- what a reference that is not null has at a field
+abbrev pub target_at : Program → Store → Slot → ℕ → Target
+target_at p m v f = record { object = object_of v; field = field p m v f; cell = cell p m v f }
 
 -- such a target is in the memory
 abbrev pub InMemory : Store → ℕ → Result (Option Target) ℕ → Type 0
@@ -44,3 +49,6 @@ abbrev pub PairInMemory : Store → ℕ → Result (Option Pair) ℕ → Type 0
 PairInMemory m f (Ok None) = Unit {0}
 PairInMemory m f (Ok (Some t)) = has_cell m t.from.object f ≡ true
 PairInMemory m f (Err n) = Unit {0}
+
+abbrev pub pair_at : Program → Store → Slot → ℕ → Slot → ℕ → Pair
+pair_at p m v f u g = record { from = target_at p m v f; to = target_at p m u g }

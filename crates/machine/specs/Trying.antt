@@ -1,6 +1,6 @@
 -- What the code answers of a test.
-use Rattle.std.specs.Prelude.{ℕ, Bool, cond, [], ◌∷◌, Some, None, Ok, Err, Option, Result}
-use Rattle.rules.specs.Rules.{first}
+use Rattle.std.specs.Prelude.{ℕ, Bool, cond, List, [], ◌∷◌, Some, None, Ok, Err, Option, Result}
+use Rattle.rules.specs.Rules.{Premise, first}
 use Rattle.memory.specs.Model.{Store, matching, cell_at, with_cell}
 use Rattle.machine.specs.declared.threads.Frame.{Frame}
 use Rattle.machine.specs.declared.tests.Answer.{Answer}
@@ -12,6 +12,10 @@ use Rattle.machine.specs.Steps.{all_words}
 abbrev pub unless_failing : {X : Type 0} → Option ℕ → X → (ℕ → X) → X
 unless_failing None x fails = x
 unless_failing (Some n) x fails = fails n
+
+-- what fields come to: what is asked fails, or a value is null, or there is what they have
+abbrev pub asked : {X : Type 0} → List Premise → Bool → X → Result (Option X) ℕ
+asked asks null x = unless_failing (first asks) (Ok (cond null None (Some x))) (λ n. Err n)
 
 abbrev pub answered : Frame → Trial → Result Answer ℕ
 answered F q =

@@ -1,5 +1,6 @@
 -- Threads, and a machine with its memory: as lists, and as the code's structs give them.
-use Rattle.std.specs.Prelude.{ℕ, Bool, true, false, cond, ◌&&◌, List, [], ◌∷◌, map, length, take, replicate, None, Ok, Option, Result, ◌==◌, nat_lt, slice_index_or}
+use Rattle.std.specs.Prelude.{ℕ, Bool, true, false, cond, ◌&&◌, List, [], ◌∷◌, map, length, replicate, None, Ok, Option, Result, ◌==◌, nat_lt, slice_index_or}
+use Rattle.list.specs.Fronts.{front_of}
 use Rattle.table.specs.declared.fault.Fault.{Fault}
 use Rattle.table.specs.declared.fault.Place.TheVariants.{Nothing}
 use Rattle.table.specs.Faults.{need, ◌>>=◌}
@@ -26,10 +27,10 @@ pub record World : Type 0 where
 
 -- what the code's structs stand for
 abbrev pub task_of : Thread → Task
-task_of t = record { status = t.status; frames = take t.depth t.frames }
+task_of t = record { status = t.status; frames = front_of t.frames }
 
 abbrev pub world_of : Machine → Store → World
-world_of M m = record { tasks = map task_of (take M.count M.threads); memory = m }
+world_of M m = record { tasks = map task_of (front_of M.threads); memory = m }
 
 -- where there is none
 abbrev pub no_frame : Frame
@@ -37,6 +38,9 @@ no_frame = record { function = 0; index = 0; slots = [] }
 
 abbrev pub no_task : Task
 no_task = record { status = Ended; frames = [] }
+
+abbrev pub no_thread : Thread
+no_thread = record { status = Running; frames = record { items = []; len = 0 } }
 
 abbrev pub task : World → ℕ → Task
 task W i = slice_index_or W.tasks i no_task

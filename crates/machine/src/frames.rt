@@ -1,10 +1,12 @@
 // One frame: its slots, and where it goes.
-ghost use Rattle.std.specs.Prelude.{◌≡◌, ℕ, suc, ◌+◌, ◌^◌, ◌<◌, ◌≤◌, length, Some, None, slice_set};
-ghost use Rattle.machine.specs.Numbers.{required};
+ghost use Rattle.std.specs.Prelude.{◌≡◌, Ok, Err, None, if◌then◌else◌, map, slice_set};
 ghost use Rattle.machine.specs.declared.threads.Status.TheVariants.{Running, Halted};
-ghost use Rattle.machine.specs.Values.{at, given};
+ghost use Rattle.std.specs.List.{list_all};
+ghost use Rattle.table.specs.declared.fault.Refusal.TheVariants.{NoOperand, Sort};
+ghost use Rattle.machine.specs.Values.{is_reference, at, given};
 
 use super::threads::{Frame, Slot, Status};
+use table::fault::{Refusal, require};
 
 // What a record did: its thread's status, the newest frame, and a number put out.
 #[derive(Clone, Copy, Drop)]
@@ -14,32 +16,44 @@ pub struct Done {
     pub out: Option<u32>,
 }
 
-// Goes on where a condition holds, and is refused with a number where it does not.
-pub fn require(holds: bool, number: u8) -> Result<(), u8>
-    ensures { result ≡ required holds number }
-{
-    if holds { Ok(()) } else { Err(number) }
-}
-
 impl Frame {
     // What a slot holds; there are 16.
     pub fn at(&self, x: u8) -> Slot
         ensures { result ≡ at self.now.slots x }
     {
         let slots: &[Slot] = &self.slots;
-        let i = x as usize;
-        if i < slots.len() {
-            slots[i]
-        } else {
-            Slot::Empty
-        }
+        slots.get(x as usize).copied().unwrap_or(Slot::Empty)
     }
 
     // Whether a slot is an operand: one of the 16, and not empty.
     pub fn gives(&self, x: u8) -> bool
         ensures { result ≡ given self.now.slots x }
     {
-        x < 16 && !self.at(x).is_empty()
+        x < 16 && self.at(x) != Slot::Empty
+    }
+
+    // Whether all of these slots are operands.
+    pub fn gives_all(&self, xs: &[u8]) -> bool
+        ensures { result ≡ list_all (given self.now.slots) xs.now }
+    {
+        xs.iter().all(|x| self.gives(*x))
+    }
+
+    // What operands hold.
+    pub(crate) fn operands<const N: usize>(&self, xs: [u8; N]) -> Result<[Slot; N], Refusal>
+        ensures { result ≡ (if list_all (given self.now.slots) xs.entry then Ok (map (at self.now.slots) xs.entry) else Err NoOperand) }
+    {
+        require(self.gives_all(&xs), Refusal::NoOperand)?;
+        Ok(xs.map(|x| self.at(x)))
+    }
+
+    // What operands hold that are all references.
+    pub(crate) fn references<const N: usize>(&self, xs: [u8; N]) -> Result<[Slot; N], Refusal>
+        ensures { result ≡ (if list_all (given self.now.slots) xs.entry then (if list_all is_reference (map (at self.now.slots) xs.entry) then Ok (map (at self.now.slots) xs.entry) else Err Sort) else Err NoOperand) }
+    {
+        let values = self.operands(xs)?;
+        require(all_references(&values), Refusal::Sort)?;
+        Ok(values)
     }
 
     // The same frame with a slot written; there is nothing to write past the slots.
@@ -49,6 +63,7 @@ impl Frame {
         let mut frame = self;
         let slots: &mut [Slot] = &mut frame.slots;
         let i = x as usize;
+        // By its index: what is written through `get_mut` is not known of the frame, and the proof does not close.
         if i < slots.len() {
             slots[i] = value;
         }
@@ -59,11 +74,9 @@ impl Frame {
     pub fn goes(self, index: usize) -> Done
         ensures { result ≡ record { status = Running; frame = record { function = self.function; index = index; slots = self.slots }; out = None } }
     {
-        let mut frame = self;
-        frame.index = index;
         Done {
             status: Status::Running,
-            frame,
+            frame: Frame { index, ..self },
             out: None,
         }
     }
@@ -78,4 +91,10 @@ impl Frame {
             out: None,
         }
     }
+}
+
+fn all_references(values: &[Slot]) -> bool
+    ensures { result ≡ list_all is_reference values.now }
+{
+    values.iter().all(|value| value.is_reference())
 }

@@ -10,9 +10,9 @@ pub mod frames;
 pub mod plain;
 pub mod reading;
 pub mod stacks;
+pub mod standing;
 mod tests;
 pub mod threads;
-pub mod used;
 pub mod values;
 
 // Clash answers the first pair of threads that touch one var field of one object, and none exactly when there is none.

@@ -1,19 +1,22 @@
 // The tests: what each answers, and what a yes leaves.
-ghost use Rattle.std.specs.Prelude.{◌≡◌, ℕ, true, ◌&&◌, if◌then◌else◌};
+ghost use Rattle.std.specs.Prelude.{◌≡◌, ℕ, true, ◌&&◌, ◌||◌, [], ◌∷◌, Ok, Err, if◌then◌else◌};
 ghost use Rattle.table.specs.declared.records.Test.TheVariants.{Nil, Same, Equal, Less, Link, Unlink, Swap, Try, Fix, Stable};
+ghost use Rattle.table.specs.Faults.{numbered};
 ghost use Rattle.table.specs.Program.{Program};
 ghost use Rattle.table.specs.Reading.{program_of};
 ghost use Rattle.memory.specs.Model.{Store, has_cell};
-ghost use Rattle.machine.specs.Values.{is_reference};
+ghost use Rattle.table.specs.declared.fault.Refusal.TheVariants.{NoOperand, Sort};
+ghost use Rattle.machine.specs.Values.{is_null, holds_number, word_of, at, given};
 ghost use Rattle.machine.specs.Reading.{refers};
-ghost use Rattle.machine.specs.Tests.{trial};
-ghost use Rattle.machine.specs.Trying.{answered, answered_store, settled, settled_store};
+ghost use Rattle.machine.specs.Seeing.{targeted, InMemory, pair_at, PairInMemory};
+ghost use Rattle.machine.specs.Tests.{trial, fields_ask};
+ghost use Rattle.machine.specs.Trying.{asked, answered, answered_store, settled, settled_store};
 
-use super::frames::require;
-use super::reading::{refers, resolve, resolve_both};
+use super::reading::{Pair, Target, refers, resolve, resolve_both};
 use super::threads::{Frame, Slot};
 use memory::keeping::Memory;
 use table::Table;
+use table::fault::{Refusal, require};
 
 // What a test came to: its thread halts, or it says yes with a frame whose slots may have changed, or no.
 #[derive(Clone, Copy, Drop)]
@@ -29,40 +32,41 @@ fn told(frame: Frame, says: bool) -> Answer
     if says { Answer::Yes(frame) } else { Answer::No }
 }
 
-pub(crate) fn nil(frame: Frame, x: u8) -> Result<Answer, u8>
-    ensures { (p : Program) (m : Store) → result ≡ answered frame (trial p m frame.slots (Nil x)) }
+pub(crate) fn nil(frame: Frame, x: u8) -> Result<Answer, Refusal>
+    ensures { (p : Program) (m : Store) → numbered result ≡ answered frame (trial p m frame.slots (Nil x)) }
 {
-    let value = frame.at(x);
-    require(frame.gives(x), 71)?;
-    require(value.is_reference(), 72)?;
-    Ok(told(frame, value.is_null()))
+    let [value] = frame.references([x])?;
+    Ok(told(frame, value == Slot::Null))
 }
 
-pub(crate) fn same(frame: Frame, x: u8, y: u8) -> Result<Answer, u8>
-    ensures { (p : Program) (m : Store) → result ≡ answered frame (trial p m frame.slots (Same x y)) }
+pub(crate) fn same(frame: Frame, x: u8, y: u8) -> Result<Answer, Refusal>
+    ensures { (p : Program) (m : Store) → numbered result ≡ answered frame (trial p m frame.slots (Same x y)) }
 {
-    let (a, b) = (frame.at(x), frame.at(y));
-    require(frame.gives(x) && frame.gives(y), 71)?;
-    require(a.is_reference() && b.is_reference(), 72)?;
+    let [a, b] = frame.references([x, y])?;
     Ok(told(frame, a.word() == b.word()))
 }
 
-pub(crate) fn equal(frame: Frame, x: u8, y: u8) -> Result<Answer, u8>
-    ensures { (p : Program) (m : Store) → result ≡ answered frame (trial p m frame.slots (Equal x y)) }
+// The words of two numbers.
+fn numbers(frame: Frame, x: u8, y: u8) -> Result<[u64; 2], Refusal>
+    ensures { result ≡ (if given frame.slots x && given frame.slots y then (if holds_number (at frame.slots x) && holds_number (at frame.slots y) then Ok (word_of (at frame.slots x) ∷ word_of (at frame.slots y) ∷ []) else Err Sort) else Err NoOperand) }
 {
-    let (a, b) = (frame.at(x), frame.at(y));
-    require(frame.gives(x) && frame.gives(y), 71)?;
-    require(a.holds_number() && b.holds_number(), 72)?;
-    Ok(told(frame, a.word() == b.word()))
+    let [a, b] = frame.operands([x, y])?;
+    require(a.holds_number() && b.holds_number(), Refusal::Sort)?;
+    Ok([a.word(), b.word()])
 }
 
-pub(crate) fn less(frame: Frame, x: u8, y: u8) -> Result<Answer, u8>
-    ensures { (p : Program) (m : Store) → result ≡ answered frame (trial p m frame.slots (Less x y)) }
+pub(crate) fn equal(frame: Frame, x: u8, y: u8) -> Result<Answer, Refusal>
+    ensures { (p : Program) (m : Store) → numbered result ≡ answered frame (trial p m frame.slots (Equal x y)) }
 {
-    let (a, b) = (frame.at(x), frame.at(y));
-    require(frame.gives(x) && frame.gives(y), 71)?;
-    require(a.holds_number() && b.holds_number(), 72)?;
-    Ok(told(frame, a.word() < b.word()))
+    let [a, b] = numbers(frame, x, y)?;
+    Ok(told(frame, a == b))
+}
+
+pub(crate) fn less(frame: Frame, x: u8, y: u8) -> Result<Answer, Refusal>
+    ensures { (p : Program) (m : Store) → numbered result ≡ answered frame (trial p m frame.slots (Less x y)) }
+{
+    let [a, b] = numbers(frame, x, y)?;
+    Ok(told(frame, a < b))
 }
 
 // Exchanges a cell that is there, and says whether it did; a yes goes on with the frame. 51 where a word is none.
@@ -74,15 +78,24 @@ fn settle<M: Memory>(
     expected: u32,
     new: u32,
     mark: bool,
-) -> Result<Answer, u8>
+) -> Result<Answer, Refusal>
     requires { has_cell (M.Memory.model memory.old) object f ≡ true }
-    ensures value { result ≡ settled (M.Memory.model memory.old) frame object f expected new }
+    ensures value { numbered result ≡ settled (M.Memory.model memory.old) frame object f expected new }
     ensures after { M.Memory.model memory.new ≡ settled_store (M.Memory.model memory.old) object f expected new mark }
 {
-    match memory.exchange(object as usize, f as usize, expected, new, mark) {
-        Ok(yes) => Ok(told(frame, yes)),
-        Err(_) => Err(51),
-    }
+    let yes = memory
+        .exchange(object as usize, f as usize, expected, new, mark)
+        .map_err(|_| Refusal::Absent)?;
+    Ok(told(frame, yes))
+}
+
+// The target of a reference that a test asks about; none where it is null.
+fn aim<M: Memory>(table: &Table, memory: &M, value: Slot, f: u8) -> Result<Option<Target>, Refusal>
+    ensures value { numbered result ≡ (if refers (program_of table.now) (M.Memory.model memory.now) value f then targeted (program_of table.now) (M.Memory.model memory.now) value f else Err 72) }
+    ensures there { InMemory (M.Memory.model memory.now) f (numbered result) }
+{
+    require(refers(table, memory, value, f), Refusal::Sort)?;
+    resolve(table, memory, value, f)
 }
 
 pub(crate) fn stable<M: Memory>(
@@ -91,13 +104,11 @@ pub(crate) fn stable<M: Memory>(
     frame: Frame,
     x: u8,
     f: u8,
-) -> Result<Answer, u8>
-    ensures { result ≡ answered frame (trial (program_of table.now) (M.Memory.model memory.now) frame.slots (Stable x f)) }
+) -> Result<Answer, Refusal>
+    ensures { numbered result ≡ answered frame (trial (program_of table.now) (M.Memory.model memory.now) frame.slots (Stable x f)) }
 {
-    let value = frame.at(x);
-    require(frame.gives(x), 71)?;
-    require(value.is_reference() && refers(table, memory, value, f), 72)?;
-    let Some(target) = resolve(table, memory, value, f)? else {
+    let [value] = frame.references([x])?;
+    let Some(target) = aim(table, memory, value, f)? else {
         return Ok(Answer::Halts);
     };
     Ok(told(frame, target.cell.mark))
@@ -111,17 +122,12 @@ pub(crate) fn attempt<M: Memory>(
     x: u8,
     f: u8,
     y: u8,
-) -> Result<Answer, u8>
-    ensures value { result ≡ answered frame (trial (program_of table.now) (M.Memory.model memory.old) frame.slots (Try x f y)) }
+) -> Result<Answer, Refusal>
+    ensures value { numbered result ≡ answered frame (trial (program_of table.now) (M.Memory.model memory.old) frame.slots (Try x f y)) }
     ensures after { M.Memory.model memory.new ≡ answered_store (M.Memory.model memory.old) (trial (program_of table.now) (M.Memory.model memory.old) frame.slots (Try x f y)) }
 {
-    let (a, b) = (frame.at(x), frame.at(y));
-    require(frame.gives(x) && frame.gives(y), 71)?;
-    require(
-        a.is_reference() && b.is_reference() && refers(table, memory, a, f),
-        72,
-    )?;
-    let Some(target) = resolve(table, memory, a, f)? else {
+    let [a, b] = frame.references([x, y])?;
+    let Some(target) = aim(table, memory, a, f)? else {
         return Ok(Answer::Halts);
     };
     let new = b.cell_word()?;
@@ -137,17 +143,12 @@ pub(crate) fn fix<M: Memory>(
     x: u8,
     f: u8,
     y: u8,
-) -> Result<Answer, u8>
-    ensures value { result ≡ answered frame (trial (program_of table.now) (M.Memory.model memory.old) frame.slots (Fix x f y)) }
+) -> Result<Answer, Refusal>
+    ensures value { numbered result ≡ answered frame (trial (program_of table.now) (M.Memory.model memory.old) frame.slots (Fix x f y)) }
     ensures after { M.Memory.model memory.new ≡ answered_store (M.Memory.model memory.old) (trial (program_of table.now) (M.Memory.model memory.old) frame.slots (Fix x f y)) }
 {
-    let (a, b) = (frame.at(x), frame.at(y));
-    require(frame.gives(x) && frame.gives(y), 71)?;
-    require(
-        a.is_reference() && b.is_reference() && refers(table, memory, a, f),
-        72,
-    )?;
-    let Some(target) = resolve(table, memory, a, f)? else {
+    let [a, b] = frame.references([x, y])?;
+    let Some(target) = aim(table, memory, a, f)? else {
         return Ok(Answer::Halts);
     };
     let word = b.cell_word()?;
@@ -163,26 +164,18 @@ pub(crate) fn swap<M: Memory>(
     f: u8,
     y: u8,
     w: u8,
-) -> Result<Answer, u8>
-    ensures value { result ≡ answered frame (trial (program_of table.now) (M.Memory.model memory.old) frame.slots (Swap x f y w)) }
+) -> Result<Answer, Refusal>
+    ensures value { numbered result ≡ answered frame (trial (program_of table.now) (M.Memory.model memory.old) frame.slots (Swap x f y w)) }
     ensures after { M.Memory.model memory.new ≡ answered_store (M.Memory.model memory.old) (trial (program_of table.now) (M.Memory.model memory.old) frame.slots (Swap x f y w)) }
 {
-    let (a, b, d) = (frame.at(x), frame.at(y), frame.at(w));
-    require(frame.gives(x) && frame.gives(y) && frame.gives(w), 71)?;
-    require(references(a, b, d) && refers(table, memory, a, f), 72)?;
-    let Some(target) = resolve(table, memory, a, f)? else {
+    let [a, b, d] = frame.references([x, y, w])?;
+    let Some(target) = aim(table, memory, a, f)? else {
         return Ok(Answer::Halts);
     };
     let old = b.cell_word()?;
     let new = d.cell_word()?;
     let spent = frame.with(w, d.left(target.field.ty));
     settle(memory, spent, target.object, f, old, new, false)
-}
-
-fn references(a: Slot, b: Slot, d: Slot) -> bool
-    ensures { result ≡ (is_reference a && is_reference b && is_reference d) }
-{
-    a.is_reference() && b.is_reference() && d.is_reference()
 }
 
 // Puts y into x.f where it is unmarked and holds the word of y.g.
@@ -194,16 +187,14 @@ pub(crate) fn link<M: Memory>(
     f: u8,
     y: u8,
     g: u8,
-) -> Result<Answer, u8>
-    ensures value { result ≡ answered frame (trial (program_of table.now) (M.Memory.model memory.old) frame.slots (Link x f y g)) }
+) -> Result<Answer, Refusal>
+    ensures value { numbered result ≡ answered frame (trial (program_of table.now) (M.Memory.model memory.old) frame.slots (Link x f y g)) }
     ensures after { M.Memory.model memory.new ≡ answered_store (M.Memory.model memory.old) (trial (program_of table.now) (M.Memory.model memory.old) frame.slots (Link x f y g)) }
 {
-    let (a, b) = (frame.at(x), frame.at(y));
-    require(frame.gives(x) && frame.gives(y), 71)?;
-    require(both_refer(table, memory, a, f, b, g), 72)?;
-    let Some(pair) = resolve_both(table, memory, a, f, b, g)? else {
+    let Some(pair) = targets(table, memory, frame, x, f, y, g)? else {
         return Ok(Answer::Halts);
     };
+    let b = frame.at(y);
     let new = b.cell_word()?;
     let spent = frame.with(y, b.left(pair.from.field.ty));
     settle(
@@ -226,17 +217,14 @@ pub(crate) fn unlink<M: Memory>(
     f: u8,
     y: u8,
     g: u8,
-) -> Result<Answer, u8>
-    ensures value { result ≡ answered frame (trial (program_of table.now) (M.Memory.model memory.old) frame.slots (Unlink x f y g)) }
+) -> Result<Answer, Refusal>
+    ensures value { numbered result ≡ answered frame (trial (program_of table.now) (M.Memory.model memory.old) frame.slots (Unlink x f y g)) }
     ensures after { M.Memory.model memory.new ≡ answered_store (M.Memory.model memory.old) (trial (program_of table.now) (M.Memory.model memory.old) frame.slots (Unlink x f y g)) }
 {
-    let (a, b) = (frame.at(x), frame.at(y));
-    require(frame.gives(x) && frame.gives(y), 71)?;
-    require(both_refer(table, memory, a, f, b, g), 72)?;
-    let Some(pair) = resolve_both(table, memory, a, f, b, g)? else {
+    let Some(pair) = targets(table, memory, frame, x, f, y, g)? else {
         return Ok(Answer::Halts);
     };
-    let old = b.cell_word()?;
+    let old = frame.at(y).cell_word()?;
     settle(
         memory,
         frame,
@@ -248,12 +236,23 @@ pub(crate) fn unlink<M: Memory>(
     )
 }
 
-// Whether two values are references, and their fields too.
-fn both_refer<M: Memory>(table: &Table, memory: &M, a: Slot, f: u8, b: Slot, g: u8) -> bool
-    ensures { result ≡ (is_reference a && is_reference b && refers (program_of table.now) (M.Memory.model memory.now) a f && refers (program_of table.now) (M.Memory.model memory.now) b g) }
+// The targets of a test on the fields x.f and y.g; none where x or y is null.
+fn targets<M: Memory>(
+    table: &Table,
+    memory: &M,
+    frame: Frame,
+    x: u8,
+    f: u8,
+    y: u8,
+    g: u8,
+) -> Result<Option<Pair>, Refusal>
+    ensures value { numbered result ≡ asked (fields_ask (program_of table.now) (M.Memory.model memory.now) frame.slots x f y g) (is_null (at frame.slots x) || is_null (at frame.slots y)) (pair_at (program_of table.now) (M.Memory.model memory.now) (at frame.slots x) f (at frame.slots y) g) }
+    ensures there { PairInMemory (M.Memory.model memory.now) f (numbered result) }
 {
-    a.is_reference()
-        && b.is_reference()
-        && refers(table, memory, a, f)
-        && refers(table, memory, b, g)
+    let [a, b] = frame.references([x, y])?;
+    require(
+        refers(table, memory, a, f) && refers(table, memory, b, g),
+        Refusal::Sort,
+    )?;
+    resolve_both(table, memory, a, f, b, g)
 }

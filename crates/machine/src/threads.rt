@@ -1,4 +1,5 @@
 // Threads of frames, and what their slots hold.
+use list::Front;
 
 // How many slots a frame has, how many frames a thread and how many threads a machine.
 pub const SLOTS: usize = 16;
@@ -17,12 +18,22 @@ pub enum Slot {
 }
 
 // Stands before a record of a function; a frame that waits stays at its call.
+// No count beside the slots: all 16 are there.
 // A jump of a table that is not accepted may lead past every record, so `index` is wider than a byte.
 #[derive(Clone, Copy, Debug, Drop)]
 pub struct Frame {
     pub function: u8,
     pub index: usize,
-    pub slots: [Slot; 16],
+    pub slots: [Slot; SLOTS],
+}
+
+impl Frame {
+    // At record 0 of function 0, all slots empty.
+    pub const FIRST: Frame = Frame {
+        function: 0,
+        index: 0,
+        slots: [Slot::Empty; SLOTS],
+    };
 }
 
 #[derive(Clone, Copy, Debug, PartialEq, Eq, Drop)]
@@ -32,17 +43,14 @@ pub enum Status {
     Halted = 2,
 }
 
-// The first `depth` frames are in use, the newest last.
+// The newest frame is the last.
 #[derive(Clone, Copy, Debug, Drop)]
 pub struct Thread {
     pub status: Status,
-    pub depth: usize,
-    pub frames: [Frame; 8],
+    pub frames: Front<Frame, FRAMES>,
 }
 
-// The first `count` threads are there.
 #[derive(Clone, Copy, Debug, Drop)]
 pub struct Machine {
-    pub threads: [Thread; 8],
-    pub count: usize,
+    pub threads: Front<Thread, THREADS>,
 }

@@ -1,25 +1,16 @@
 // What slots hold.
 ghost use Rattle.std.specs.Prelude.{◌≡◌, ℕ, if◌then◌else◌, Ok, Err};
+ghost use Rattle.table.specs.Faults.{numbered};
 ghost use Rattle.memory.specs.Model.{is_word};
-ghost use Rattle.machine.specs.Values.{is_empty, is_null, holds_number, is_reference, word_of, value_of, suits, left};
+ghost use Rattle.machine.specs.Values.{holds_number, is_reference, word_of, value_of, suits, left};
 
 use super::threads::Slot;
 use memory::keeping::WORD_END;
-use table::types::Ty;
+use table::fault::{Refusal, require};
+use table::types::{Kind, Ty};
 
 impl Slot {
-    pub fn is_empty(self) -> bool
-        ensures { result ≡ is_empty self }
-    {
-        matches!(self, Slot::Empty)
-    }
-
-    pub fn is_null(self) -> bool
-        ensures { result ≡ is_null self }
-    {
-        matches!(self, Slot::Null)
-    }
-
+    // As `is_reference`, a word of the definitions: `==` would need the number too.
     pub fn holds_number(self) -> bool
         ensures { result ≡ holds_number self }
     {
@@ -44,36 +35,30 @@ impl Slot {
         }
     }
 
-    // The same, where a cell can hold it; 51 where it cannot.
-    pub fn cell_word(self) -> Result<u32, u8>
-        ensures { result ≡ (if is_word (word_of self) then Ok (word_of self) else Err 51) }
+    // The same, where a cell can hold it.
+    pub fn cell_word(self) -> Result<u32, Refusal>
+        ensures { numbered result ≡ (if is_word (word_of self) then Ok (word_of self) else Err 51) }
     {
         let word = self.word();
-        if word < WORD_END as u64 {
-            Ok(word as u32)
-        } else {
-            Err(51)
-        }
+        require(word < WORD_END as u64, Refusal::Absent)?;
+        Ok(word as u32)
     }
 
     // What a cell of a type holds.
     pub fn of_cell(ty: Ty, word: u32) -> Slot
         ensures { result ≡ value_of ty word }
     {
-        if ty.kind.is_number() {
+        if ty.kind == Kind::Number {
             return Slot::Number(word);
         }
-        match word.checked_sub(1) {
-            None => Slot::Null,
-            Some(object) => Slot::Reference(object),
-        }
+        word.checked_sub(1).map_or(Slot::Null, Slot::Reference)
     }
 
     // A number for a number, and a reference for a reference.
     pub fn suits(self, ty: Ty) -> bool
         ensures { result ≡ suits ty self }
     {
-        if ty.kind.is_number() {
+        if ty.kind == Kind::Number {
             self.holds_number()
         } else {
             self.is_reference()
@@ -84,7 +69,7 @@ impl Slot {
     pub fn left(self, ty: Ty) -> Slot
         ensures { result ≡ left ty self }
     {
-        if ty.kind.is_owned() || ty.kind.is_pristine() {
+        if matches!(ty.kind, Kind::Owned | Kind::Pristine) {
             Slot::Null
         } else {
             self

@@ -1,29 +1,17 @@
 use super::{holding, running};
+use list::Front;
 use machine::clashing::Clash;
 use machine::threads::{Machine, Status};
 use memory::keeping::Memory;
-use memory::object::{Cell, Object};
+use memory::object::Object;
 use memory::object_table::ObjectTable;
 use owning::owners;
 use std::test::Fail;
 use stepping::{clash, start};
-use table::types::{Kind, Ty};
+use table::types::Ty;
 use table::{Fault, Place, Table, open};
 
-const NUMBER: Ty = Ty {
-    kind: Kind::Number,
-    strukt: 0,
-    barred: 0,
-    withheld: 0,
-};
-
-const OBJECT: Object = Object {
-    kind: 0,
-    cells: [Cell {
-        word: 0,
-        mark: false,
-    }; 8],
-};
+// Refusals by number: the tests pin what number each name has.
 
 // Not accepted: record 3 gets the var field 0 of an alias in slot 2.
 const GETS: &[u8; 86] = b"\
@@ -41,22 +29,14 @@ const OWNS: &[u8; 86] = b"\
 
 #[test]
 fn starts(rt: HostRuntime) -> Result<(), Fail> {
-    let mut objects = [OBJECT; 1];
+    let mut objects = [Object::BLANK; 1];
     let mut memory = ObjectTable::new(&mut objects)?;
     let machine = start(&memory)?;
-    assert_eq!(rt; machine.count, 1);
-    assert_eq!(rt; machine.in_use().len(), 1);
+    assert_eq!(rt; machine.threads.len, 1);
+    assert_eq!(rt; machine.threads.all().len(), 1);
     memory.add(0)?;
-    match start(&memory) {
-        Ok(_) => {
-            assert!(rt; false);
-            Ok(())
-        },
-        Err(refusal) => {
-            assert_eq!(rt; refusal, Fault::new(60, Place::Nothing));
-            Ok(())
-        },
-    }
+    assert_eq!(rt; start(&memory).err(), Some(Fault::new(60, Place::Nothing)));
+    Ok(())
 }
 
 fn met(lower: usize, higher: usize) -> Option<Clash> {
@@ -71,22 +51,24 @@ fn met(lower: usize, higher: usize) -> Option<Clash> {
 #[test]
 fn clashes(rt: HostRuntime) -> Result<(), Fail> {
     let table = open(GETS)?;
-    let mut objects = [OBJECT; 2];
+    let mut objects = [Object::BLANK; 2];
     let mut memory = ObjectTable::new(&mut objects)?;
     memory.add(0)?;
     memory.add(0)?;
     let mut machine = Machine {
-        threads: [running(1, holding(3, 2, 1)); 8],
-        count: 3,
+        threads: Front {
+            items: [running(1, holding(3, 2, 1)); 8],
+            len: 3,
+        },
     };
     assert_eq!(rt; clash(&table, &machine, &memory), met(0, 1));
-    machine.threads[0] = running(1, holding(3, 2, 0));
+    machine.threads.items[0] = running(1, holding(3, 2, 0));
     assert_eq!(rt; clash(&table, &machine, &memory), met(1, 2));
-    machine.threads[2] = running(1, holding(2, 2, 1));
+    machine.threads.items[2] = running(1, holding(2, 2, 1));
     assert_eq!(rt; clash(&table, &machine, &memory), None);
-    machine.count = 9;
+    machine.threads.len = 9;
     assert_eq!(rt; clash(&table, &machine, &memory), met(1, 3));
-    machine.threads[1].status = Status::Halted;
+    machine.threads.items[1].status = Status::Halted;
     assert_eq!(rt; clash(&table, &machine, &memory), met(3, 4));
     Ok(())
 }
@@ -98,14 +80,16 @@ fn counted(
     x: u8,
     object: usize,
 ) -> Result<usize, Fault> {
-    let mut objects = [OBJECT; 1];
+    let mut objects = [Object::BLANK; 1];
     let mut memory = ObjectTable::new(&mut objects)?;
     memory.add(0)?;
     let machine = Machine {
-        threads: [running(depth, holding(index, x, 0)); 8],
-        count: 2,
+        threads: Front {
+            items: [running(depth, holding(index, x, 0)); 8],
+            len: 2,
+        },
     };
-    let mut scratch = [NUMBER; 128];
+    let mut scratch = [Ty::NUMBER; 128];
     owners(table, &machine, &memory, object, &mut scratch)
 }
 

@@ -49,7 +49,7 @@ pub fn replay<M: Memory>(memory: &mut M, calls: &[Call]) -> usize
     ensures keeps { Keeps (M.Memory.model memory.old) (M.Memory.model memory.new) calls.now }
 {
     let mut accepted = 0;
-    // A loop and no chain: each call changes the memory that the next one finds.
+    // A loop: the calls change the memory, and of a closure that changes what it captures a chain says nothing.
     for call in calls {
         accepted += usize::from(make(memory, *call));
     }

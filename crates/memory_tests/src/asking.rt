@@ -16,7 +16,7 @@ pub enum Question {
     Exchange(usize, usize, u32, u32, bool),
 }
 
-// A cell is answered by its word and mark; what has no number by 0, and what is neither marked nor a yes by false.
+// One pair for all answers, so that those of two memories compare. A cell is answered by its word and mark; what has no number by 0, and what is neither marked nor a yes by false.
 pub fn ask<M: Memory>(memory: &mut M, question: Question) -> Result<(usize, bool), Fault>
     ensures value { result ≡ answer_of (M.Memory.model memory.old) question }
     ensures after { M.Memory.model memory.new ≡ after_asking (M.Memory.model memory.old) question }

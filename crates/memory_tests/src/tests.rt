@@ -7,6 +7,8 @@ use memory::replay::{Call, replay};
 use std::test::Fail;
 use table::fault::{Fault, Place};
 
+// Refusals by number: the tests pin what number each name has.
+
 const WORD: u32 = 0x7fff_ffff;
 
 const QUESTIONS: [Question; 30] = [

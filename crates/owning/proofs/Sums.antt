@@ -1,12 +1,11 @@
 -- Sums over slots, frames and threads, one more at a time, and what is known of each frame.
-use Rattle.std.proofs.Common.{◌≡◌, ℕ, zero, suc, ◌+◌, ◌<◌, ◌≤◌, cond, Bool, true, false, ◌&&◌, ◌||◌, ◌==◌, ltb, List, [], ◌∷◌, map, length, get_or, take, Ok, Err, Result, sym, refl, ap, ◌∙◌, ap₂, inl, inr, arith, length-take}
+use Rattle.std.proofs.Common.{◌≡◌, ℕ, zero, suc, ◌+◌, ◌<◌, cond, Bool, true, false, ◌&&◌, ◌||◌, ◌==◌, ltb, List, [], ◌∷◌, map, length, get_or, take, Ok, Err, Result, sym, refl, ap, ◌∙◌, ap₂, arith}
 use Rattle.std.specs.Prelude.{count_by, zip}
 use Rattle.std.specs.List.{list_all}
 use Rattle.std.specs.Result.{result_unwrap_or}
 use Rattle.std.proofs.lemmas.List.{get_or-map, length-map}
 use Rattle.std.proofs.lemmas.List.Sums.{sum_by-cons}
-use Rattle.std.proofs.lemmas.Bool.{and_parts, cases_lt, ltb-true}
-use Rattle.table.specs.declared.fault.Place.{Place}
+use Rattle.std.proofs.lemmas.Bool.{and_parts, ltb-true}
 use Rattle.table.specs.declared.fault.Place.TheVariants as place
 use Rattle.table.specs.declared.fault.Fault.{Fault}
 use Rattle.table.specs.declared.types.Ty.{Ty}
@@ -21,13 +20,8 @@ use Rattle.machine.specs.declared.threads.Slot.{Slot}
 use Rattle.machine.specs.declared.threads.Slot.TheVariants.{Empty, Null, Number, Reference}
 use Rattle.machine.specs.declared.threads.Frame.{Frame}
 use Rattle.machine.specs.declared.threads.Thread.{Thread}
-use Rattle.machine.specs.declared.threads.Status.TheVariants.{Running}
-use Rattle.machine.specs.World.{task_of, no_task, no_frame, in_table}
+use Rattle.machine.specs.World.{task_of, no_task, no_thread, no_frame, in_table}
 use Rattle.safety.specs.Owners.{owns, slots_owning, all_in_table, frames_known}
-
--- what stands for a thread that is not there
-abbrev pub no_thread : Thread
-no_thread = record { status = Running; depth = 0; frames = [] }
 
 -- one more part of a sum goes from what is left to what is summed
 pub moves : (sum part more left whole : ℕ) → sum + left ≡ whole → left ≡ part + more → (sum + part) + more ≡ whole

@@ -40,7 +40,7 @@ pub(crate) struct Owning<'a, 't> {
     ghost accepted: { verdict (program_of table.now) ≡ Ok tt },
 }
 
-// Each brings types in scope to the front of the scratch.
+// Each brings types in scope to the front of the scratch, so the sums are loops: of a closure that writes, a chain says nothing.
 impl Owning<'_, '_> {
     fn in_frame(&self, frame: &Frame, scratch: &mut [Ty; 128]) -> usize
         requires { in_table (program_of self.now.table.now) frame.now ≡ true }
@@ -75,7 +75,7 @@ impl Owning<'_, '_> {
     {
         let mut total = 0;
         for thread in threads {
-            total += self.in_frames(thread.in_use(), scratch);
+            total += self.in_frames(thread.frames.all(), scratch);
         }
         total
     }

@@ -27,9 +27,10 @@ fn all_in_table(table: &Table, frames: &[Frame]) -> bool
 pub(crate) fn require_frames(table: &Table, threads: &[Thread]) -> Result<(), Fault>
     ensures { (m : Store) → result ≡ frames_known (program_of table.now) (record { tasks = map task_of threads.now; memory = m }) }
 {
+    // A loop, as in `open`: what `try_for_each` says of its calls proves too little.
     for (i, thread) in threads.iter().enumerate() {
         require(
-            all_in_table(table, thread.in_use()),
+            all_in_table(table, thread.frames.all()),
             Refusal::Unknown.at(Place::Thread(i)),
         )?;
     }

@@ -37,7 +37,7 @@ pub fn owners<M: Memory>(
         object < memory.count(),
         Refusal::NoObject.at(Place::Nothing),
     )?;
-    let threads = machine.in_use();
+    let threads = machine.threads.all();
     require_frames(table, threads)?;
     Ok(Owning { table, object }.in_threads(threads, scratch))
 }

@@ -1,5 +1,6 @@
 -- What is reported of a table, and its text.
-use Rattle.std.specs.Prelude.{ℕ, ◌+◌, Bool, true, false, cond, List, [], ◌∷◌, ◌++◌, take, Ok, Err, codes, decimal, Result}
+use Rattle.std.specs.Prelude.{ℕ, ◌+◌, Bool, true, false, cond, List, [], ◌∷◌, ◌++◌, Ok, Err, codes, decimal, Result}
+use Rattle.list.specs.Fronts.{front_of}
 use Rattle.table.specs.declared.fault.Fault.{Fault}
 use Rattle.table.specs.Faults.{◌>>=◌}
 use Rattle.table.specs.Shown.{fault_text}
@@ -64,7 +65,7 @@ reported b = reported_on (record { capacity = 64; objects = [] }) b
 
 -- what a report of the code stands for
 abbrev pub numbers_of : Rehearsal → List ℕ
-numbers_of r = take r.count r.numbers
+numbers_of r = front_of r.numbers
 
 abbrev pub ran_by : Result Rehearsal Fault → Result Told Fault
 ran_by (Ok r) = Ok (Ran (numbers_of r) r.tally)

@@ -5,7 +5,7 @@ ghost use Rattle.std.specs.Prelude.{◌≡◌, ◌≤◌, length};
 ghost use Rattle.list.specs.Held.{held};
 ghost use Rattle.rehearsing.specs.Reports.{numbers_of, run_over, reported, reported_on, meant, ran_by};
 
-use list::Bounded;
+use list::{Bounded, Front};
 use memory::keeping::Memory;
 use memory::object::Object;
 use memory::object_table::ObjectTable;
@@ -24,18 +24,17 @@ pub mod tally;
 // How many steps a rehearsal may take.
 const STEPS: usize = 10_000;
 
-// The numbers of a list, in an array of their own.
+// The numbers of a list, copied to an array of their own: no contract says what the lent one ends as.
 fn copied(out: &Bounded<'_, u32>, tally: Tally) -> Rehearsal
     ensures numbers { length (held out.now) ≤ 256 → numbers_of result ≡ held out.now }
     ensures tally { result.tally ≡ tally }
 {
-    let mut numbers = [0; 256];
+    let mut items = [0; 256];
     let all = out.all();
-    let count = all.len().min(256);
-    numbers[..count].copy_from_slice(&all[..count]);
+    let len = all.len().min(256);
+    items[..len].copy_from_slice(&all[..len]);
     Rehearsal {
-        numbers,
-        count,
+        numbers: Front { items, len },
         tally,
     }
 }

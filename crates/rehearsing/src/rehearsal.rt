@@ -1,12 +1,11 @@
 // What came of a table: a refusal, or the numbers that its run put out and its threads.
 use super::tally::Tally;
+use list::Front;
 use table::Fault;
 
-// The first `count` numbers were put out.
 #[derive(Clone, Copy, Drop)]
 pub struct Rehearsal {
-    pub numbers: [u32; 256],
-    pub count: usize,
+    pub numbers: Front<u32, 256>,
     pub tally: Tally,
 }
 

@@ -26,7 +26,7 @@ impl Tally {
     pub fn of(machine: &Machine, steps: usize) -> Tally
         ensures { result ≡ tallied (tasks_of machine.now) steps }
     {
-        let threads = machine.in_use();
+        let threads = machine.threads.all();
         Tally {
             ended: how_many(threads, Status::Ended),
             halted: how_many(threads, Status::Halted),
@@ -40,13 +40,10 @@ impl fmt::Display for Tally {
     ghost output = { λ x. Some (tally_text x) };
 
     fn fmt<W: fmt::Write>(&self, f: &mut fmt::Formatter<W>) -> fmt::Result {
-        let ended = self.ended;
-        let halted = self.halted;
-        let running = self.running;
-        let steps = self.steps;
         write!(
             f,
-            "ended {ended} halted {halted} running {running} steps {steps}"
+            "ended {} halted {} running {} steps {}",
+            self.ended, self.halted, self.running, self.steps
         )
     }
 }

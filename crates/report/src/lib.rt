@@ -51,7 +51,7 @@ mod tests {
     use std::test::Fail;
     use table::Place;
 
-    // One byte more than a table may have.
+    // One byte more than a table may have. The refusal by its number, as it is printed.
     #[test]
     fn too_long(rt: HostRuntime) -> Result<(), Fail> {
         let bytes = vec![in rt.alloc(); 1u8; 65_536]?;

@@ -1,6 +1,6 @@
 -- The check of all functions gives the verdict, and what the verdict says.
-use Rattle.std.proofs.Common.{◌≡◌, ℕ, suc, ◌+◌, ◌-◌, ◌<◌, ◌≤◌, ltb, List, length, get_or, take, drop, set, Ok, Err, Option, sym, ap, ◌∙◌, inl, inr, add-one, arith}
-use Rattle.std.proofs.lemmas.List.{take_all, take_more, take_more_set, drop_more, at_drop_all}
+use Rattle.std.proofs.Common.{◌≡◌, ℕ, suc, ◌+◌, ◌-◌, ◌<◌, ◌≤◌, ltb, List, length, drop, Ok, Err, Option, sym, ap, ◌∙◌, inl, inr, add-one, arith}
+use Rattle.std.proofs.lemmas.List.{take_all, drop_more, at_drop_all}
 use Rattle.std.proofs.lemmas.Bool.{lt-ltb, le-ltb, cases_lt, cond-true, cond-false}
 use Rattle.table.specs.declared.fault.Fault.{Fault}
 use Rattle.table.specs.declared.fault.Place.TheVariants.{Nothing}
@@ -11,7 +11,7 @@ use Rattle.table.specs.Records.{Op}
 use Rattle.table.specs.Program.{Function, Program}
 use Rattle.table.specs.Reading.{program_of}
 use Rattle.rules.specs.declared.parts.Sort.TheVariants.{InBody}
-use Rattle.rules.specs.Rules.{number, no_function, callee}
+use Rattle.rules.specs.Rules.{no_function, callee}
 use Rattle.rules.specs.Scopes.{read, start, bodies, verdict}
 use Rattle.rules.specs.Scan.{scan}
 use Rattle.rules.specs.Seen.{seen}
@@ -35,10 +35,6 @@ body_read p fn k n r ts u l h =
     h ∙ ap (λ (xs : List (Option Op)). scan p fn k (suc (length fn.records)) 7 0 ts InBody xs) (whole fn.records n l)
     ∙ ap (λ (vs : List Ty). scan p fn k (suc (length fn.records)) 7 0 vs InBody fn.records) u
     ∙ sym (scan_stands p fn k (suc (length fn.records)) (omega arith))
-
--- parameters are brought into scope one by one
-pub one_more : (xs ps : List Ty) (i : ℕ) (x : Ty) → i < length xs → i < length ps → take i xs ≡ take i ps → x ≡ get_or ps i number → take (i + 1) (set xs i x) ≡ take (i + 1) ps
-one_more xs ps i x h l e v = take_more_set xs i x h ∙ rw (e, v) (sym (take_more ps i number l))
 
 -- the functions in turn
 module _ (p : Program) where
@@ -78,8 +74,11 @@ answer_says p room r o h = record {
           | inr x ↦ sym (h ∙ cond-false (ltb room 128) (Err (fault 30 Nothing)) (verdict p) (le-ltb room 128 x)) ∙ y
         ]
 
-pub seen_checked : (t : Table) (room : ℕ) (r : Passes) → r ≡ checked room (seen t) → r ≡ checked room (program_of t)
-seen_checked t room r h = h ∙ ap (checked room) (seen_is t)
+-- the two clauses of the check
+pub answer : (t : Table) (room : ℕ) (r : Passes) → r ≡ checked room (seen t) → (r ≡ checked room (program_of t)) × (Opens (program_of t) → Says (program_of t) room r)
+answer t room r h =
+    let is = h ∙ ap (checked room) (seen_is t) in
+    (is, λ o. answer_says (program_of t) room r o is)
 
 pub checked_small : (room : ℕ) (p : Program) → room < 128 → Err (fault 30 Nothing) ≡ checked room p
 checked_small room p h = sym (cond-true (ltb room 128) (Err (fault 30 Nothing)) (verdict p) (lt-ltb room 128 h))

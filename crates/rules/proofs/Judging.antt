@@ -1,8 +1,7 @@
 -- What a record that is judged says, and the check of a part by its first record.
-use Rattle.std.proofs.Common.{◌≡◌, ℕ, zero, suc, ◌+◌, ◌-◌, ◌<◌, ◌≤◌, Bool, true, false, cond, not, ◌&&◌, ◌||◌, eqb, ltb, leb, List, [], ◌∷◌, ◌++◌, length, get_or, take, drop, set, Some, None, Ok, Err, Option, Result, sym, refl, ap, ◌∙◌, subst, arith, length-drop, set-set}
-use lib.Seq.{set-get_or, take-set-lt}
+use Rattle.std.proofs.Common.{◌≡◌, ℕ, zero, suc, ◌+◌, ◌-◌, ◌<◌, ◌≤◌, Bool, true, false, cond, not, ◌&&◌, ◌||◌, eqb, ltb, leb, List, [], ◌∷◌, ◌++◌, length, get_or, take, drop, Some, None, Ok, Err, Option, Result, sym, refl, ap, ◌∙◌, subst, arith, length-drop}
 use Rattle.std.proofs.lemmas.Bool.Decides.{nat_tests}
-use Rattle.std.proofs.lemmas.List.{take_all, take-append-le, take-take, take_more_set, length-take-le, drop_more, drop-take, drop-drop}
+use Rattle.std.proofs.lemmas.List.{take-take, length-take-le, drop_more, drop-take, drop-drop}
 use Rattle.std.proofs.lemmas.Bool.{and_parts, ltb-true, eqb-true}
 use Rattle.table.specs.declared.fault.Place.TheVariants.{Record}
 use Rattle.table.specs.declared.fault.Fault.{Fault}
@@ -11,7 +10,7 @@ use Rattle.table.specs.declared.records.Test.{Test}
 use Rattle.table.specs.declared.records.Test.TheVariants.{Nil, Same, Equal, Less, Link, Unlink, Swap, Try, Fix, Stable}
 use Rattle.table.specs.declared.records.Record as declared
 use Rattle.table.specs.declared.records.Record.TheVariants as coded
-use Rattle.table.specs.Faults.{Passes, fault, ◌>>=◌}
+use Rattle.table.specs.Faults.{Passes, fault, required, ◌>>=◌}
 use Rattle.table.specs.Records.{Op, New, Null, Int, Share, Own, Get, Take, Set, Add, Call, Fork, Return, Again, Join, Emit, Ask, meant}
 use Rattle.table.specs.Program.{Function, Program}
 use Rattle.rules.specs.declared.parts.Sort.{Sort}
@@ -84,6 +83,19 @@ first_none ((m, false) ∷ qs) xs h = let z : ◌≡◌ {A = ℕ} 0 1 = cc in ab
 pub last_fails : (n : ℕ) (b : Bool) → b ≡ false → first ((n, b) ∷ []) ≡ Some n
 last_fails n true h = let z : ◌≡◌ {A = ℕ} 0 1 = cc in absurd (omega arith)
 last_fails n false h = refl
+
+-- a condition that holds, and one that does not
+pub required_ok : {E : Type 0} (b : Bool) (e : E) (u : Unit {0}) → Ok u ≡ required b e → b ≡ true
+required_ok true e u h = refl
+required_ok false e u h = let z : ◌≡◌ {A = ℕ} 0 1 = cc in absurd (omega arith)
+
+pub required_err : {E : Type 0} (b : Bool) (e f : E) → Err f ≡ required b e → (b ≡ false) × (f ≡ e)
+required_err true e f h = let z : ◌≡◌ {A = ℕ} 0 1 = cc in absurd (omega arith)
+required_err false e f h = (refl, cc)
+
+pub settled_none : (x : Option ℕ) (k i : ℕ) (u : Unit {0}) → Ok u ≡ settled x k i → x ≡ None
+settled_none None k i u h = refl
+settled_none (Some n) k i u h = let z : ◌≡◌ {A = ℕ} 0 1 = cc in absurd (omega arith)
 
 -- chains
 pub then_again : {A B : Type 0} (x : Passes) (a : A) (go : A → Result B Fault) → (x >>= λ _. go a) ≡ ((x >>= λ _. Ok a) >>= go)
@@ -215,6 +227,11 @@ module _ (p : Program) (fn : Function) (k : ℕ) where
       sym (ap (λ (x : Option Op). judged_of p fn k levels left q ts i x) (sym d)
       ∙ ap (λ (x : Option ℕ). settled x k i >>= λ _. Ok op) (first_some (premises p fn ts op) (placed_last levels left q op) n (sym h)))
 
+  pub judged_settled : (levels left : ℕ) (q : Sort) (ts : List Ty) (i : ℕ) (o : Option Op) (op : Op) (x : Option ℕ) (f : Fault) → Some op ≡ o → x ≡ first (premises p fn ts op)
+      → Err f ≡ settled x k i → Err f ≡ judged_of p fn k levels left q ts i o
+  judged_settled levels left q ts i o op None f d h e = let z : ◌≡◌ {A = ℕ} 0 1 = cc in absurd (omega arith)
+  judged_settled levels left q ts i o op (Some n) f d h e = let z : f ≡ fault n (Record k i) = cc in ap Err z ∙ judged_refused levels left q ts i o op n d h
+
   pub judged_misplaced : (levels left : ℕ) (q : Sort) (ts : List Ty) (i : ℕ) (o : Option Op) (op : Op) → Some op ≡ o → None ≡ first (premises p fn ts op)
       → fitting levels left q (shape op) ≡ false → Err (fault 28 (Record k i)) ≡ judged_of p fn k levels left q ts i o
   judged_misplaced levels left q ts i o op d h b =
@@ -306,29 +323,3 @@ module _ (p : Program) (fn : Function) (k : ℕ) where
       → go levels i3 vs q zs ≡ test_by p fn k go levels i ts q t a b rs
   test_third go levels i us vs ts q t a b rs ys ns zs i1 i2 i3 d1 d2 d3 y n d u v x z =
       let m = rw (d1, y) at x in let o = rw (d2, n, u) at z in rw (d3, v, u, d, ← m, ← o) refl
-
--- what was bound is cut off again
-pub cut_grown : (ts : List Ty) (o : Option Ty) → take (length ts) (grown ts o) ≡ ts
-cut_grown ts None = take_all (length ts) ts (omega arith)
-cut_grown ts (Some t) = take-append-le (length ts) ts (t ∷ []) (omega arith) ∙ take_all (length ts) ts (omega arith)
-
--- a slice whose first items are the types in scope
-pub bound_pushed : (n m : ℕ) (xs ys : List Ty) (t : Ty) (o : Option Ty) → n < length xs → m ≡ n + 1 → ys ≡ set xs n t → Some t ≡ o → take m ys ≡ grown (take n xs) o
-bound_pushed n m xs ys t o h l y e = rw (l, y, ← e) (take_more_set xs n t h)
-
-pub front_kept : (d n : ℕ) (xs ys zs : List Ty) (o : Option Ty) → d ≤ n → d ≤ length xs → take n ys ≡ grown (take d xs) o → take n zs ≡ take n ys → take d zs ≡ take d xs
-front_kept d n xs ys zs o le l y z =
-    let e : length (take d xs) ≡ d = length-take-le d xs l in
-    let k : take d (grown (take d xs) o) ≡ take d xs = subst (λ m. take m (grown (take d xs) o) ≡ take d xs) e (cut_grown (take d xs) o) in
-    sym (take-take d n zs le) ∙ ap (λ (us : List Ty). take d us) (z ∙ y) ∙ k
-
-pub front_changed : (d : ℕ) (xs vs : List Ty) (x : ℕ) (ty : Ty) → x < d → set (take d xs) x ty ≡ vs → take d (set xs x ty) ≡ vs
-front_changed d xs vs x ty h e = take-set-lt d xs x ty h ∙ e
-
-pub front_back : (d : ℕ) (xs ys zs : List Ty) (x : ℕ) (ty e : Ty) → x < d → take d ys ≡ take d (set xs x ty) → zs ≡ set ys x (get_or xs x e) → take d zs ≡ take d xs
-front_back d xs ys zs x ty e h y z =
-    ap (λ (us : List Ty). take d us) z
-    ∙ take-set-lt d ys x (get_or xs x e) h
-    ∙ ap (λ (us : List Ty). set us x (get_or xs x e)) y
-    ∙ sym (take-set-lt d (set xs x ty) x (get_or xs x e) h)
-    ∙ ap (λ (us : List Ty). take d us) (set-set xs x ty (get_or xs x e) ∙ set-get_or xs x e)

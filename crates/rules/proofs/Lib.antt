@@ -10,7 +10,8 @@ pub mod Scan
 pub mod Numbers
 mod Lists
 pub mod Judging
+pub mod Blocking
 pub mod Checked
-pub mod Walk
+pub mod InScope
 pub mod Before
 pub mod Stacks

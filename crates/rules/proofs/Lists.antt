@@ -1,5 +1,5 @@
 -- The tests of a list, in the words of std.
-use Rattle.std.proofs.Common.{◌≡◌, ℕ, ◌+◌, ◌-◌, ◌≤◌, Bool, true, false, cond, not, ◌&&◌, eqb, ltb, List, [], ◌∷◌, length, get_or, take, drop, map, Some, None, Ok, Err, Option, Result, sym, refl, ap, ◌∙◌, inl, inr, arith}
+use Rattle.std.proofs.Common.{◌≡◌, ℕ, ◌+◌, ◌-◌, ◌≤◌, Bool, true, false, cond, not, ◌&&◌, eqb, ltb, List, [], ◌∷◌, length, get_or, take, drop, map, Some, Option, sym, refl, ap, ◌∙◌, inl, inr, arith}
 use Rattle.std.specs.List.{find, list_all, list_any, enumerate_from}
 use Rattle.std.specs.Option.{option_map}
 use Rattle.std.proofs.lemmas.List.{drop_more, take_all}
@@ -8,7 +8,7 @@ use Rattle.table.specs.declared.fault.Refusal.{Refusal}
 use Rattle.table.specs.declared.types.Ty.{Ty}
 use Rattle.table.specs.Faults.{number_of}
 use Rattle.rules.specs.Rules.{first, below, lacks, distinct, flows, slot, flow_to, number}
-use Rattle.rules.specs.Scoped.{by_number, refusal_of}
+use Rattle.rules.specs.Scoped.{by_number}
 
 -- a premise that fails, and the number of its refusal
 abbrev pub fails : Refusal × Bool → Bool
@@ -25,10 +25,6 @@ first_found (q ∷ qs) =
     of : (b : Bool) → cond b (failed (find fails qs)) (Some (number_of q.0)) ≡ failed (cond (not b) (Some q) (find fails qs))
     of true = refl
     of false = refl
-
-pub none_refused : (r : Result (Unit {0}) Refusal) → ((e : Refusal) → r ≡ Err e → ⊥) → refusal_of r ≡ None
-none_refused (Ok u) h = refl
-none_refused (Err e) h = absurd (h e refl)
 
 pub below_all : (d : ℕ) (xs : List ℕ) → below d xs ≡ list_all (λ x. ltb x d) xs
 below_all d [] = refl

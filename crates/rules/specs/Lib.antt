@@ -14,3 +14,4 @@ pub mod Trials
 pub mod Before
 pub mod Stacks
 pub mod ScopeTrials
+pub mod InScope

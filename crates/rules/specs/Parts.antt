@@ -1,5 +1,5 @@
 -- The check of a part of a body, and of a test that begins it.
-use Rattle.std.specs.Prelude.{ℕ, ◌+◌, ◌-◌, List, take, drop, Ok, Err, Option, Result}
+use Rattle.std.specs.Prelude.{ℕ, ◌+◌, ◌-◌, ◌≤◌, List, length, take, drop, Ok, Err, Option, Result}
 use Rattle.table.specs.declared.fault.Fault.{Fault}
 use Rattle.table.specs.declared.types.Ty.{Ty}
 use Rattle.table.specs.declared.records.Test.{Test}
@@ -15,6 +15,11 @@ use Rattle.rules.specs.Scan.{judged_of, test_by, scan}
 -- the records from place i up to j
 abbrev pub span : List (Option Op) → ℕ → ℕ → List (Option Op)
 span rs i j = take (j - i) (drop i rs)
+
+-- a part of a body, with as many types in scope as its block began with, or more
+pub record Stands (b : Body) (ts : List Ty) (q : Part) : Type 0 where
+  pub inside : q.end ≤ length (function_in b).records
+  pub deep : q.floor ≤ length ts
 
 -- what a check of a part says
 abbrev pub scanned : ℕ → Body → List Ty → Part → Passes

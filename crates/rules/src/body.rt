@@ -19,6 +19,7 @@ pub struct Body<'t> {
 
 // What is not there has no fields, no parameters and no records.
 impl<'t> Body<'t> {
+    // As `has_function` but for the part asked of; a name for each reads plainer than one function of a count.
     pub fn has_struct(self, s: u8) -> bool
         ensures { result ≡ nat_lt s (length (program_in self.entry).structs) }
     {

@@ -1,109 +1,87 @@
 // The check of a body: block by block, and a test by its blocks.
-ghost use Rattle.std.specs.Prelude.{◌≡◌, ℕ, ◌+◌, ◌-◌, ◌<◌, ◌≤◌, length, take, None, slice_set};
-ghost use Rattle.table.specs.Records.{meant};
-ghost use Rattle.rules.specs.Rules.{bound, yes_types};
+ghost use Rattle.std.specs.Prelude.{◌≡◌, ℕ, ◌+◌, ◌-◌, ◌<◌, ◌≤◌, length, take, None};
 ghost use Rattle.table.specs.Reading.{program_of};
-ghost use Rattle.rules.specs.Scopes.{grown, read, start};
+ghost use Rattle.rules.specs.Rules.{yes_types};
+ghost use Rattle.rules.specs.Scopes.{read, start};
 ghost use Rattle.rules.specs.Seen.{program_in, function_in};
+ghost use Rattle.rules.specs.InScope.{in_scope, back};
 ghost use Rattle.rules.specs.Checked.{checked, Opens, Says};
-ghost use Rattle.rules.specs.Parts.{scanned, tested, judged_at, said_by, refused_in, test_refused_in};
+ghost use Rattle.rules.specs.Parts.{scanned, tested, judged_at, said_by, test_refused_in, Stands};
 
 use super::body::Body;
+use super::in_scope::{InScope, Saved};
 use super::parts::{Part, Sort};
 use super::scope::Scope;
-use list::append;
-use table::fault::{Fault, Place};
+use list::Bounded;
+use table::fault::{Fault, Place, Refusal, require};
 use table::records::{Record, Test};
 use table::types::Ty;
 use table::view::Table;
 
-// Holds the types while a yes block is checked, with the type that a slot goes back to.
-struct Guard<'a> {
-    types: &'a mut [Ty],
-    slot: usize,
-    was: Ty,
+// Holds the types in scope while a yes block is checked, with what its end brings back.
+struct Guard<'s, 'l, 'a> {
+    types: &'s mut InScope<'l, 'a>,
+    saved: Saved,
 }
 
-impl Drop for Guard<'_> {
+impl Drop for Guard<'_, '_, '_> {
     fn drop(self)
-        ensures { self.exit.0.now ≡ slice_set self.entry.types.now self.entry.slot self.entry.was }
+        ensures { in_scope self.exit.0.now ≡ back (in_scope self.entry.types.now) self.entry.saved }
     {
-        if self.slot < self.types.len() {
-            self.types[self.slot] = self.was;
-        }
-        let Guard {
-            types: _,
-            slot: _,
-            was: _,
-        } = self;
+        let Guard { types, saved } = self;
+        types.bring_back(saved);
     }
 }
 
 // The first record of a part, unless it is refused: 20, then 21 to 27 by its rule, then 28 and 29 by its place.
-pub(crate) fn judge<'t>(body: Body<'t>, types: &[Ty], part: Part) -> Result<Record<'t>, Fault>
-    requires { (part.place < part.end) × (part.floor ≤ length types.now) }
-    ensures { said_by result ≡ judged_at body.entry types.now part }
+pub(crate) fn judge<'t>(
+    body: Body<'t>,
+    types: &InScope<'_, '_>,
+    part: Part,
+) -> Result<Record<'t>, Fault>
+    requires begun { part.place < part.end }
+    requires floor { part.floor ≤ length (in_scope types.now) }
+    ensures { said_by result ≡ judged_at body.entry (in_scope types.now) part }
 {
     let place = Place::Record {
         function: body.function,
         index: part.place,
     };
-    let Some(said) = body.record_at(part.place) else {
-        return Err(Fault::new(20, place));
+    let said = body.record_at(part.place).ok_or(Refusal::Record.at(place))?;
+    let scope = Scope {
+        body,
+        types: types.list.all(),
     };
-    let scope = Scope { body, types };
-    if let Err(refusal) = scope.allow(said) {
-        return Err(refusal.at(place));
-    }
-    if !part.fits(said) {
-        return Err(Fault::new(28, place));
-    }
+    scope.allow(said).map_err(|refusal| refusal.at(place))?;
+    require(part.fits(said), Refusal::Block.at(place))?;
     // Never so: a block's bindings lie above what was in scope where it began.
-    if types.len() < part.floor {
-        return Err(Fault::new(29, place));
-    }
+    require(part.floor <= types.list.len(), Refusal::Leak.at(place))?;
     Ok(said)
 }
 
-// Brings what an accepted record binds into scope, and answers how many types are in scope then.
-pub(crate) fn bind(body: Body<'_>, types: &mut [Ty], depth: usize, said: Record<'_>) -> usize
-    requires { (refused_in body (take depth types.old) (meant said) ≡ None) × ((depth ≤ 16) × (16 ≤ length types.old)) }
-    ensures types { take result types.new ≡ grown (take depth types.old) (bound (program_in body.entry) (function_in body.entry) (take depth types.old) (meant said.entry)) }
-    ensures depth { (depth ≤ result) × (result ≤ 16) }
-{
-    let scope = Scope {
-        body,
-        types: &types[..depth],
-    };
-    match scope.binds(said) {
-        Some(ty) => append(types, depth, ty),
-        None => depth,
-    }
-}
+// Body, types and part stay three parameters: `stands` ties them, but types and part change from call to call, so no value can carry it.
 
-// Checks a block's records in turn, and leaves the types in scope as they were.
+// Checks a block's records in turn. What is in scope before them stays in front of what they bring into scope.
 #[cycle(check_block_check_test_check_yes)]
-fn check_block(body: Body<'_>, types: &mut [Ty], depth: usize, part: Part) -> Result<(), Fault>
-    requires { (depth ≤ 16) × ((16 ≤ length types.old) × ((part.end ≤ length (function_in body).records) × (part.floor ≤ depth))) }
-    ensures value { (f : ℕ) → part.end - part.place < f → result ≡ scanned f body.entry (take depth types.old) part }
-    ensures types { take depth types.new ≡ take depth types.old }
+fn check_block(body: Body<'_>, types: &mut InScope<'_, '_>, part: Part) -> Result<(), Fault>
+    requires stands { Stands body (in_scope types.old) part }
+    ensures value { (f : ℕ) → part.end - part.place < f → result ≡ scanned f body.entry (in_scope types.old) part }
+    ensures kept { take (length (in_scope types.old)) (in_scope types.new) ≡ in_scope types.old }
 {
     if part.place >= part.end {
         return Ok(());
     }
-    let said = judge(body, &types[..depth], part)?;
+    let said = judge(body, types, part)?;
+    // A `match` of two arms is plainest: a test carries the counts of its blocks, and no other record has blocks.
     match said {
-        Record::Ask { test, yes, no } => check_test(body, types, depth, part, test, yes, no),
+        Record::Ask { test, yes, no } => check_test(body, types, part, test, yes, no),
         _ => {
-            let grown = bind(body, types, depth, said);
+            types.bind(body, said);
             let rest = Part {
                 place: part.place + 1,
-                end: part.end,
-                levels: part.levels,
-                sort: part.sort,
-                floor: part.floor,
+                ..part
             };
-            check_block(body, types, grown, rest)
+            check_block(body, types, rest)
         }
     }
 }
@@ -112,101 +90,70 @@ fn check_block(body: Body<'_>, types: &mut [Ty], depth: usize, part: Part) -> Re
 #[cycle(check_block_check_test_check_yes)]
 fn check_test(
     body: Body<'_>,
-    types: &mut [Ty],
-    depth: usize,
+    types: &mut InScope<'_, '_>,
     part: Part,
     test: Test,
     yes: u16,
     no: u16,
 ) -> Result<(), Fault>
-    requires depth_bound { (depth ≤ 16) × ((16 ≤ length types.old) × ((part.end ≤ length (function_in body).records) × (part.floor ≤ depth))) }
-    requires no_bound { (part.place + 1 + yes + no ≤ part.end) × ((1 ≤ part.levels) × (test_refused_in body (take depth types.old) test ≡ None)) }
-    ensures value { (f : ℕ) → part.end - (part.place + 1) < f → result ≡ tested f body.entry (take depth types.old) part test yes no }
-    ensures types { take depth types.new ≡ take depth types.old }
+    requires stands { Stands body (in_scope types.old) part }
+    requires inside { part.place + 1 + yes + no ≤ part.end }
+    requires levels { 1 ≤ part.levels }
+    requires allowed { test_refused_in body (in_scope types.old) test ≡ None }
+    ensures value { (f : ℕ) → part.end - (part.place + 1) < f → result ≡ tested f body.entry (in_scope types.old) part test yes no }
+    ensures kept { take (length (in_scope types.old)) (in_scope types.new) ≡ in_scope types.old }
 {
-    let first = part.place + 1;
-    let second = first + yes as usize;
-    let behind = second + no as usize;
-    let levels = part.levels - 1;
+    let depth = types.list.len();
     let in_yes = Part {
-        place: first,
-        end: second,
-        levels,
+        place: part.place + 1,
+        end: part.place + 1 + yes as usize,
+        levels: part.levels - 1,
         sort: Sort::InYes(no),
         floor: depth,
     };
     let in_no = Part {
-        place: second,
-        end: behind,
-        levels,
+        place: in_yes.end,
+        end: in_yes.end + no as usize,
         sort: Sort::InNo,
-        floor: depth,
+        ..in_yes
     };
     let rest = Part {
-        place: behind,
-        end: part.end,
-        levels: part.levels,
-        sort: part.sort,
-        floor: part.floor,
+        place: in_no.end,
+        ..part
     };
-    check_yes(body, types, depth, in_yes, test)?;
-    check_block(body, types, depth, in_no)?;
-    check_block(body, types, depth, rest)
+    check_yes(body, types, in_yes, test)?;
+    check_block(body, types, in_no)?;
+    types.list.truncate(depth);
+    check_block(body, types, rest)
 }
 
-// Checks a yes block under the type that its test changes; the guard puts that type back on every way out.
+// Checks a yes block under the type that its test changes; the guard brings that type back on every way out.
 #[cycle(check_block_check_test_check_yes)]
 fn check_yes(
     body: Body<'_>,
-    types: &mut [Ty],
-    depth: usize,
+    types: &mut InScope<'_, '_>,
     part: Part,
     test: Test,
 ) -> Result<(), Fault>
-    requires { (depth ≤ 16) × ((16 ≤ length types.old) × ((part.end ≤ length (function_in body).records) × ((test_refused_in body (take depth types.old) test ≡ None) × (part.floor ≤ depth)))) }
-    ensures value { (f : ℕ) → part.end - part.place < f → result ≡ scanned f body.entry (yes_types (program_in body.entry) (function_in body.entry) (take depth types.old) test) part }
-    ensures types { take depth types.new ≡ take depth types.old }
+    requires stands { Stands body (in_scope types.old) part }
+    requires allowed { test_refused_in body (in_scope types.old) test ≡ None }
+    ensures value { (f : ℕ) → part.end - part.place < f → result ≡ scanned f body.entry (yes_types (program_in body.entry) (function_in body.entry) (in_scope types.old) test) part }
+    ensures same { in_scope types.new ≡ in_scope types.old }
 {
-    let scope = Scope {
-        body,
-        types: &types[..depth],
-    };
-    let change = scope.changes(test);
-    let slot = change.slot as usize;
-    let was = types[slot];
-    let guard = Guard { types, slot, was };
-    guard.types[slot] = change.ty;
-    check_block(body, guard.types, depth, part)?;
-    Ok(())
+    let saved = types.change(body, test);
+    let guard = Guard { types, saved };
+    check_block(body, guard.types, part)
 }
 
-// Brings a function's parameters into scope, and answers how many there are.
-pub(crate) fn enter(body: Body<'_>, types: &mut [Ty]) -> usize
-    requires { 16 ≤ length types.old }
-    ensures types { take result types.new ≡ (function_in body.entry).params }
-    ensures depth { result ≤ 4 }
-{
-    let count = body.params(body.function);
-    for i in 0..count {
-        types[i] = body.param(body.function, i);
-    }
-    count
-}
-
-// Checks the body of a function. It is level 1, and seven levels may lie below it.
+// Checks the body of a function.
 fn check_body(body: Body<'_>, scratch: &mut [Ty]) -> Result<(), Fault>
-    requires { 16 ≤ length scratch.old }
+    requires room { 16 ≤ length scratch.old }
     ensures { result ≡ read (program_in body.entry) (function_in body.entry) body.entry.function 0 (start (program_in body.entry) (function_in body.entry)) (function_in body.entry).records }
 {
-    let depth = enter(body, scratch);
-    let whole = Part {
-        place: 0,
-        end: body.records(),
-        levels: 7,
-        sort: Sort::InBody,
-        floor: 0,
-    };
-    check_block(body, scratch, depth, whole)
+    let mut list = Bounded::new(scratch);
+    let mut types = InScope { list: &mut list };
+    types.enter(body);
+    check_block(body, &mut types, Part::whole(body))
 }
 
 // Checks all records of a table by the rules, in scratch for 128 types.
@@ -214,9 +161,8 @@ pub fn check(table: &Table<'_>, scratch: &mut [Ty]) -> Result<(), Fault>
     ensures value { result ≡ checked (length scratch.old) (program_of table.now) }
     ensures opened { Opens (program_of table.now) → Says (program_of table.now) (length scratch.old) result }
 {
-    if scratch.len() < 128 {
-        return Err(Fault::new(30, Place::Nothing));
-    }
+    require(scratch.len() >= 128, Refusal::Scratch.at(Place::Nothing))?;
+    // By number: a table lends its bytes, and no slice of functions.
     for function in 0..table.functions() {
         let body = Body {
             table: *table,

@@ -61,6 +61,7 @@ impl<'t, 's> Scope<'t, 's> {
         requires { Low (meant said) }
         ensures { result ≡ binding self.entry (meant said.entry) }
     {
+        // An arm an op: the ops are a closed enum, and a closure for each would only hide which.
         match said {
             Record::New { s, .. } | Record::Null { s, .. } => Some(type_of(Kind::Pristine, s, 0)),
             Record::Int { .. } | Record::Add { .. } => Some(Ty::NUMBER),
@@ -96,6 +97,7 @@ impl<'t, 's> Scope<'t, 's> {
         ensures types { slice_set (types_in self.entry) result.slot result.ty ≡ changed self.entry test }
         ensures slot { result.slot < length (types_in self.entry) }
     {
+        // An arm an op: the ops are a closed enum, and a closure for each would only hide which.
         match test {
             Test::Nil { x }
             | Test::Same { x, .. }

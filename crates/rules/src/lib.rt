@@ -5,6 +5,8 @@ mod body;
 mod checking;
 mod effects;
 mod flow;
+mod in_scope;
+mod nesting;
 mod parts;
 mod premises;
 mod scope;

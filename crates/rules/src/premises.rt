@@ -19,6 +19,7 @@ impl<'t, 's> Scope<'t, 's> {
     pub fn allow(self, said: Record<'_>) -> Result<(), Refusal>
         ensures { refusal_of result ≡ refused self.entry (meant said.entry) }
     {
+        // An arm an op: the ops are a closed enum, and a closure for each would only hide which.
         match said {
             Record::New { z, s } | Record::Null { z, s } => self.fresh_rule(z, s),
             Record::Int { z, .. } => require_all(&[(Refusal::Binding, self.free(z))]),
@@ -213,6 +214,7 @@ impl<'t, 's> Scope<'t, 's> {
     fn allow_test(self, test: Test) -> Result<(), Refusal>
         ensures { refusal_of result ≡ refused_test self.entry test }
     {
+        // An arm an op: the ops are a closed enum, and a closure for each would only hide which.
         match test {
             Test::Nil { x } => self.nil_rule(x),
             Test::Same { x, y } => self.same_rule(x, y),

@@ -19,10 +19,10 @@ pub struct Scope<'t, 's> {
 pub fn require_all(premises: &[(Refusal, bool)]) -> Result<(), Refusal>
     ensures { refusal_of result ≡ first (map by_number premises.now) }
 {
-    match premises.iter().find(|(_, holds)| !*holds) {
-        Some((refusal, _)) => Err(*refusal),
-        None => Ok(()),
-    }
+    premises
+        .iter()
+        .find(|(_, holds)| !*holds)
+        .map_or(Ok(()), |(refusal, _)| Err(*refusal))
 }
 
 // What rules ask of slots. A slot that is not in scope reads as a number.
@@ -52,7 +52,7 @@ impl<'t, 's> Scope<'t, 's> {
         self.slot(x).kind
     }
 
-    // An alias or owned.
+    // An alias or owned. A word of the rules, as `is_held` is: the premises name it.
     pub fn is_lasting(self, x: u8) -> bool
         ensures { result ≡ (is_alias (slot_in self.entry x).kind || is_owned (slot_in self.entry x).kind) }
     {
@@ -73,6 +73,7 @@ impl<'t, 's> Scope<'t, 's> {
         self.body.has_field(self.slot(x).strukt, f)
     }
 
+    // Half of a field, as `field_type` is: the premises name each.
     pub fn mode(self, x: u8, f: u8) -> Mode
         ensures { result ≡ mode_in self.entry x f }
     {

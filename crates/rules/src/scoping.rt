@@ -1,185 +1,152 @@
 // The scope before a record: the records before it are read in turn, with the open blocks in a list.
-ghost use Rattle.std.specs.Prelude.{◌≡◌, ◌<◌, ◌≤◌, ◌∷◌, length, take, None};
+ghost use Rattle.std.specs.Prelude.{◌≡◌, ◌<◌, ◌≤◌, ◌∷◌, [], length, None, Ok};
 ghost use Rattle.table.specs.Reading.{program_of};
-ghost use Rattle.list.specs.Held.{held, room};
 ghost use Rattle.rules.specs.Rules.{callee, yes_types};
 ghost use Rattle.rules.specs.Scopes.{state, Yes, close, end_of, before};
 ghost use Rattle.rules.specs.Seen.{program_in, function_in};
 ghost use Rattle.rules.specs.Parts.{test_refused_in};
-ghost use Rattle.rules.specs.Before.{scoped, Fronts};
-ghost use Rattle.rules.specs.Stacks.{sort_by, following, blocks_of, state_of, stack, Deep, part_at, Passed};
+ghost use Rattle.rules.specs.InScope.{in_scope, SameList};
+ghost use Rattle.rules.specs.Before.{read_before, counted, scoped, Fronts};
+ghost use Rattle.rules.specs.Stacks.{blocks_of, state_of, stack, Deep, Passed};
 
 use super::body::Body;
-use super::checking::{bind, enter, judge};
-use super::parts::{Part, Sort};
-use super::scope::Scope;
+use super::checking::judge;
+use super::in_scope::InScope;
+use super::nesting::{Blocks, Open};
 use list::Bounded;
-use table::fault::{Fault, Place};
+use table::fault::{Fault, Place, Refusal, require};
 use table::records::{Record, Test};
 use table::types::Ty;
 use table::view::Table;
 
-// An open block: its end, the count of the no block behind it if it is a yes block, and what its end brings back. A test changes the type of one
-// slot, and what is bound lies above the depth, so one list of types is enough.
-#[derive(Clone, Copy, Drop)]
-pub struct Open {
-    pub end: usize,
-    pub count: Option<u16>,
-    pub depth: usize,
-    pub slot: usize,
-    pub was: Ty,
-}
+// Body, types and blocks stay three parameters here: a struct of the three would be lent on at each call, and read no plainer.
 
-// What fills the list's room.
-const UNUSED: Open = Open {
-    end: 0,
-    count: None,
-    depth: 0,
-    slot: 0,
-    was: Ty::NUMBER,
-};
-
-impl Open {
-    fn sort(self) -> Sort
-        ensures { result ≡ sort_by self.count }
-    {
-        match self.count {
-            Some(count) => Sort::InYes(count),
-            None => Sort::InNo,
-        }
-    }
-
-    // How many records of a no block come behind it.
-    fn following(self) -> u16
-        ensures { result ≡ following self.count }
-    {
-        match self.count {
-            Some(count) => count,
-            None => 0,
-        }
-    }
-}
-
-// The innermost block, from a record on.
-fn innermost(body: Body<'_>, blocks: &Bounded<'_, Open>, place: usize) -> Part
-    requires { length (held blocks.now) ≤ 7 }
-    ensures { result ≡ part_at (length (function_in body.entry).records) place (stack blocks.now) }
-{
-    let levels = 7 - blocks.len() as u8;
-    match blocks.last() {
-        Some(block) => Part {
-            place,
-            end: block.end,
-            levels,
-            sort: block.sort(),
-            floor: block.depth,
-        },
-        None => Part {
-            place,
-            end: body.records(),
-            levels,
-            sort: Sort::InBody,
-            floor: 0,
-        },
-    }
-}
-
-// Opens a test's yes block, under the type that the test changes.
+// Opens an accepted test's yes block, under the type that the test changes.
 fn open_yes(
     body: Body<'_>,
-    types: &mut [Ty],
-    depth: usize,
-    blocks: &mut Bounded<'_, Open>,
+    types: &mut InScope<'_, '_>,
+    blocks: &mut Blocks<'_, '_>,
     end: usize,
     test: Test,
     no: u16,
 )
-    requires { (depth ≤ 16) × ((16 ≤ length types.old) × ((length (held blocks.old) < room blocks.old) × (test_refused_in body (take depth types.old) test ≡ None))) }
-    ensures state { state_of (take depth types.new) (stack blocks.new) ≡ state (yes_types (program_in body.entry) (function_in body.entry) (take depth types.old) test) (Yes no end (take depth types.old) ∷ blocks_of (take depth types.old) (stack blocks.old)) }
-    ensures deep { Deep depth (stack blocks.old) → Deep depth (stack blocks.new) }
-    ensures room { room blocks.new ≡ room blocks.old }
+    requires less { length (stack blocks.old) < 7 }
+    requires allowed { test_refused_in body (in_scope types.old) test ≡ None }
+    ensures state { state_of (in_scope types.new) (stack blocks.new) ≡ state (yes_types (program_in body.entry) (function_in body.entry) (in_scope types.old) test) (Yes no end (in_scope types.old) ∷ blocks_of (in_scope types.old) (stack blocks.old)) }
+    ensures deep { Deep (length (in_scope types.old)) (stack blocks.old) → Deep (length (in_scope types.new)) (stack blocks.new) }
+    ensures same { SameList types.old types.new }
 {
-    let scope = Scope {
-        body,
-        types: &types[..depth],
-    };
-    let change = scope.changes(test);
-    let slot = change.slot as usize;
-    let opened = Open {
+    let saved = types.change(body, test);
+    let _ = blocks.list.push(Open {
         end,
         count: Some(no),
-        depth,
-        slot,
-        was: types[slot],
-    };
-    types[slot] = change.ty;
-    let _ = blocks.push(opened);
+        saved,
+    });
 }
 
-// Ends the blocks that end before a record, puts back what they bring back, and opens the no block that begins there. Answers how many types
-// are in scope then.
-fn end_blocks(types: &mut [Ty], depth: usize, blocks: &mut Bounded<'_, Open>, place: usize) -> usize
-    requires { (depth ≤ 16) × ((16 ≤ length types.old) × ((place ≤ 256) × (Deep depth (stack blocks.old)))) }
-    ensures state { state_of (take result types.new) (stack blocks.new) ≡ close place (take depth types.old) (blocks_of (take depth types.old) (stack blocks.old)) }
-    ensures deep { (result ≤ depth) × (Deep result (stack blocks.new)) }
-    ensures room { room blocks.new ≡ room blocks.old }
+// Ends the blocks that end before a record, and opens the no block that begins there.
+fn end_blocks(types: &mut InScope<'_, '_>, blocks: &mut Blocks<'_, '_>, place: usize)
+    requires place { place ≤ 256 }
+    requires deep { Deep (length (in_scope types.old)) (stack blocks.old) }
+    ensures state { state_of (in_scope types.new) (stack blocks.new) ≡ close place (in_scope types.old) (blocks_of (in_scope types.old) (stack blocks.old)) }
+    ensures deep { Deep (length (in_scope types.new)) (stack blocks.new) }
+    ensures same { SameList types.old types.new }
 {
-    let Some(block) = blocks.last() else {
-        return depth;
+    let Some(block) = blocks.list.last() else {
+        return;
     };
     if block.end != place {
-        return depth;
+        return;
     }
-    let _ = blocks.pop();
-    types[block.slot] = block.was;
+    let _ = blocks.list.pop();
+    types.bring_back(block.saved);
     let count = block.following();
     if count == 0 {
-        return end_blocks(types, block.depth, blocks, place);
+        end_blocks(types, blocks, place);
+    } else {
+        let _ = blocks.list.push(Open {
+            end: place + count as usize,
+            count: None,
+            ..block
+        });
     }
-    let turned = Open {
-        end: place + count as usize,
-        count: None,
-        depth: block.depth,
-        slot: block.slot,
-        was: block.was,
-    };
-    let _ = blocks.push(turned);
-    block.depth
 }
 
-// Reads a record, unless it is refused, and answers how many types are in scope behind it.
+// Reads a record, unless it is refused.
 fn pass(
     body: Body<'_>,
-    types: &mut [Ty],
-    depth: usize,
-    blocks: &mut Bounded<'_, Open>,
+    types: &mut InScope<'_, '_>,
+    blocks: &mut Blocks<'_, '_>,
     place: usize,
-) -> Result<usize, Fault>
-    requires depth_bound { (depth ≤ 16) × ((16 ≤ length types.old) × ((place ≤ 255) × (room blocks.old ≡ 7))) }
-    requires deep { (Deep depth (stack blocks.old)) × (place < end_of (length (function_in body).records) (blocks_of (take depth types.old) (stack blocks.old))) }
-    ensures value { Passed body.entry place (state_of (take depth types.old) (stack blocks.old)) types.new (stack blocks.new) result }
-    ensures room { room blocks.new ≡ room blocks.old }
+) -> Result<(), Fault>
+    requires place { place ≤ 255 }
+    requires deep { Deep (length (in_scope types.old)) (stack blocks.old) }
+    requires before_end { place < end_of (length (function_in body).records) (blocks_of (in_scope types.old) (stack blocks.old)) }
+    ensures value { Passed body.entry place (state_of (in_scope types.old) (stack blocks.old)) (in_scope types.new) (stack blocks.new) result }
+    ensures same { SameList types.old types.new }
 {
-    let part = innermost(body, blocks, place);
-    let said = judge(body, &types[..depth], part)?;
-    match said {
-        Record::Ask { test, yes, no } => {
-            open_yes(
-                body,
-                types,
-                depth,
-                blocks,
-                place + 1 + yes as usize,
-                test,
-                no,
-            );
-            Ok(depth)
-        }
-        _ => {
-            let grown = bind(body, types, depth, said);
-            Ok(end_blocks(types, grown, blocks, place + 1))
-        }
+    let part = blocks.innermost(body, place);
+    let said = judge(body, types, part)?;
+    if let Record::Ask { test, yes, no } = said {
+        let end = place + 1 + yes as usize;
+        open_yes(body, types, blocks, end, test, no);
+    } else {
+        types.bind(body, said);
+        end_blocks(types, blocks, place + 1);
     }
+    Ok(())
+}
+
+// Reads the records before one, and leaves the types in scope there.
+fn read_up_to(
+    body: Body<'_>,
+    types: &mut InScope<'_, '_>,
+    blocks: &mut Blocks<'_, '_>,
+    index: usize,
+) -> Result<(), Fault>
+    requires start { in_scope types.old ≡ (function_in body).params }
+    requires outside { stack blocks.old ≡ [] }
+    requires there { index < length (function_in body).records }
+    requires few { index ≤ 255 }
+    ensures value { result ≡ read_before (program_in body.entry) body.entry.function index }
+    ensures types { result ≡ Ok tt → in_scope types.new ≡ (before (program_in body.entry) (function_in body.entry) index).types }
+    ensures same { SameList types.old types.new }
+{
+    // By place: a table lends its bytes, and no slice of records.
+    for place in 0..index {
+        pass(body, types, blocks, place)?;
+    }
+    Ok(())
+}
+
+// Table and scratch are parameters here as in the public `scope_at`, which lends them on: the rules of the project name them there.
+
+// The scope before a record, in scratch for at least 16 types, whose front then holds it. Refused where there is no such record, and where a record
+// before it is.
+pub(crate) fn scope_in(
+    table: &Table<'_>,
+    function: usize,
+    index: usize,
+    scratch: &mut [Ty],
+) -> Result<usize, Fault>
+    requires room { 16 ≤ length scratch.old }
+    ensures value { result ≡ counted (program_of table.now) function index }
+    ensures types { Fronts (before (program_of table.now) (callee (program_of table.now) function) index).types scratch.new result }
+{
+    let body = Body {
+        table: *table,
+        function,
+    };
+    let place = Place::Record { function, index };
+    require(index < body.records(), Refusal::Record.at(place))?;
+    let mut list = Bounded::new(scratch);
+    let mut types = InScope { list: &mut list };
+    types.enter(body);
+    let mut space = [Open::default(); 7];
+    let mut open = Bounded::new(&mut space);
+    let mut blocks = Blocks { list: &mut open };
+    read_up_to(body, &mut types, &mut blocks, index)?;
+    Ok(types.list.len())
 }
 
 // How many types are in scope before a record; the scratch, for 128 types, then holds them in front. Refused where there is no such record, and
@@ -193,21 +160,6 @@ pub fn scope_at(
     ensures value { result ≡ scoped (length scratch.old) (program_of table.now) function index }
     ensures types { Fronts (before (program_of table.now) (callee (program_of table.now) function) index).types scratch.new result }
 {
-    if scratch.len() < 128 {
-        return Err(Fault::new(30, Place::Nothing));
-    }
-    let body = Body {
-        table: *table,
-        function,
-    };
-    if index >= body.records() {
-        return Err(Fault::new(20, Place::Record { function, index }));
-    }
-    let mut space = [UNUSED; 7];
-    let mut blocks = Bounded::new(&mut space);
-    let mut depth = enter(body, scratch);
-    for place in 0..index {
-        depth = pass(body, scratch, depth, &mut blocks, place)?;
-    }
-    Ok(depth)
+    require(scratch.len() >= 128, Refusal::Scratch.at(Place::Nothing))?;
+    scope_in(table, function, index, scratch)
 }

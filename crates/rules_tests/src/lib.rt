@@ -109,7 +109,7 @@ mod tests {
         judge(bytes, &mut scratch)
     }
 
-    // A refusal that names a record of function 0.
+    // A refusal that names a record of function 0. By number: the tests pin what number each name has.
     fn refused(number: u8, index: usize) -> Result<(), Fault> {
         Err(Fault::new(number, Place::Record { function: 0, index }))
     }

@@ -25,6 +25,8 @@ fn counted(answer: Result<(), Fault>) -> usize
     usize::from(answer.is_ok())
 }
 
+// Machine, memory and list are lent to each call: a rule of the project.
+
 // Steps these threads in turn until so many steps were taken, and says how many were. A step that is refused changes nothing.
 //
 // For an accepted table and a machine that was started on an empty memory, however it was stepped since: no step is ever stuck, no two threads clash, and no
@@ -44,6 +46,7 @@ pub fn run<M: Memory>(
     ensures safe { StaysSafe (program_of table.now) (world_of machine.old (M.Memory.model memory.old)) (world_of machine.new (M.Memory.model memory.new)) }
 {
     let mut taken = 0;
+    // A loop: steps change the machine, and of a closure that changes what it captures a chain says nothing.
     for thread in threads {
         if taken >= limit {
             return taken;
@@ -67,6 +70,7 @@ pub fn rounds<M: Memory>(
     ensures safe { StaysSafe (program_of table.now) (world_of machine.old (M.Memory.model memory.old)) (world_of machine.new (M.Memory.model memory.new)) }
 {
     let mut taken = 0;
+    // No range: what is left falls by as many as a round took.
     while taken < limit {
         let more = run(
             table,

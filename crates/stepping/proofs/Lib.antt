@@ -1,3 +1,4 @@
+pub mod Frames
 pub mod Records
 pub mod Arguments
 pub mod Turned

@@ -14,11 +14,11 @@ use Rattle.machine.specs.World.{no_frame, op_at}
 use Rattle.machine.specs.Ways.{Change, Way, newest, waiting, stopped, way, returned, is_call, is_slot, call_slot}
 use Rattle.machine.specs.Tests.{trial}
 use Rattle.machine.specs.Steps.{Turn, Fails, Does, unless, by_way, room_for}
-use Rattle.stepping.specs.declared.turning.Outcome.TheVariants.{Goes}
+use Rattle.stepping.specs.declared.turning.Outcome.TheVariants.{Goes, Calls, Forks}
 use Rattle.machine.specs.Alone.{alone, done_of, memory_after}
 use Rattle.stepping.specs.Calling.{granted, handed, forking, handing, ending, resuming, resumed, returning}
 use Rattle.stepping.proofs.Turned.{leaves_memory}
-use Rattle.stepping.specs.Turns.{going, calling, forked, leading, acted, made}
+use Rattle.stepping.specs.Turns.{becomes, led, acted, made}
 
 -- a value that is granted, and the turn that it makes
 pub granted_turn : {X : Type 0} (f : Result X ℕ → Turn) (x : X) (t : Turn) → ((n : ℕ) → f (Err n) ≡ Fails n) → f (Ok x) ≡ t → (qs : List Premise) → f (granted qs x) ≡ unless (first qs) t
@@ -61,7 +61,7 @@ module _ (p : Program) (m : Store) (fs : List Frame) (threads room : ℕ) where
 
   -- a record within its frame does to its thread what it would do to one with this frame alone
   pub goes_as : (w v : Way) → w.asks ≡ v.asks → w.halts ≡ v.halts → first (room_for p m fs threads room w.limit) ≡ first (room_for p m (F ∷ []) 0 room v.limit) → w.out ≡ v.out → Like w.change v.change
-      → made fs (memory_after m (by_way p m (F ∷ []) 0 room v)) (going (done_of (by_way p m (F ∷ []) 0 room v))) ≡ by_way p m fs threads room w
+      → made fs (memory_after m (by_way p m (F ∷ []) 0 room v)) (becomes Goes (done_of (by_way p m (F ∷ []) 0 room v))) ≡ by_way p m fs threads room w
   goes_as w v a h l o c =
       by (first v.asks) v.halts (first (room_for p m (F ∷ []) 0 room v.limit))
       ∙ sym (
@@ -72,7 +72,7 @@ module _ (p : Program) (m : Store) (fs : List Frame) (threads room : ℕ) where
       )
     where
       by : (x : Option ℕ) (b : Bool) (y : Option ℕ)
-          → made fs (memory_after m (unless x (cond b (Does (stopped p m (F ∷ []) Halted (F ∷ [])) None) (unless y (Does v.change v.out))))) (going (done_of (unless x (cond b (Does (stopped p m (F ∷ []) Halted (F ∷ [])) None) (unless y (Does v.change v.out))))))
+          → made fs (memory_after m (unless x (cond b (Does (stopped p m (F ∷ []) Halted (F ∷ [])) None) (unless y (Does v.change v.out))))) (becomes Goes (done_of (unless x (cond b (Does (stopped p m (F ∷ []) Halted (F ∷ [])) None) (unless y (Does v.change v.out))))))
           ≡ unless x (cond b (Does (stopped p m fs Halted fs) None) (unless y (Does w.change v.out)))
       by (Some n) b y = refl
       by None true y = ap (λ (gs : List Frame). Does (stopped p m fs Halted gs) None) (set-get_or fs (length fs - 1) no_frame)
@@ -81,15 +81,15 @@ module _ (p : Program) (m : Store) (fs : List Frame) (threads room : ℕ) where
 
   -- calls and forks
   pub call_made : (z n : ℕ) (args : List ℕ)
-      → made fs m (calling (granted (handing p F (ltb z 16) n args ((73, ltb n (length p.functions)) ∷ (66, ltb (length fs) 8) ∷ [])) (handed p F n args))) ≡ by_way p m fs threads room (way p m fs (Call z n args))
+      → made fs m (becomes Calls (granted (handing p F (ltb z 16) n args ((73, ltb n (length p.functions)) ∷ (66, ltb (length fs) 8) ∷ [])) (handed p F n args))) ≡ by_way p m fs threads room (way p m fs (Call z n args))
   call_made z n args =
-      granted_turn (λ r. made fs m (calling r)) (handed p F n args) (Does (way p m fs (Call z n args)).change None) (λ k. refl) refl (handing p F (ltb z 16) n args ((73, ltb n (length p.functions)) ∷ (66, ltb (length fs) 8) ∷ []))
+      granted_turn (λ r. made fs m (becomes Calls r)) (handed p F n args) (Does (way p m fs (Call z n args)).change None) (λ k. refl) refl (handing p F (ltb z 16) n args ((73, ltb n (length p.functions)) ∷ (66, ltb (length fs) 8) ∷ []))
       ∙ first_both (way p m fs (Call z n args)).asks ((66, ltb (length fs) 8) ∷ []) (Does (way p m fs (Call z n args)).change None)
 
   pub fork_made : (n : ℕ) (args : List ℕ)
-      → made fs m (forked (granted (handing p F true n args ((73, ltb n (length p.functions)) ∷ (67, ltb threads 8) ∷ [])) (forking p F n args))) ≡ by_way p m fs threads room (way p m fs (Fork n args))
+      → made fs m (becomes Forks (granted (handing p F true n args ((73, ltb n (length p.functions)) ∷ (67, ltb threads 8) ∷ [])) (forking p F n args))) ≡ by_way p m fs threads room (way p m fs (Fork n args))
   fork_made n args =
-      granted_turn (λ r. made fs m (forked r)) (forking p F n args) (Does (way p m fs (Fork n args)).change None) (λ k. refl) refl (handing p F true n args ((73, ltb n (length p.functions)) ∷ (67, ltb threads 8) ∷ []))
+      granted_turn (λ r. made fs m (becomes Forks r)) (forking p F n args) (Does (way p m fs (Fork n args)).change None) (λ k. refl) refl (handing p F true n args ((73, ltb n (length p.functions)) ∷ (67, ltb threads 8) ∷ []))
       ∙ first_both (way p m fs (Fork n args)).asks ((67, ltb threads 8) ∷ []) (Does (way p m fs (Fork n args)).change None)
 
   -- a return: the premises and the change, by whether a frame waits and by how many frames there are
@@ -105,11 +105,11 @@ module _ (p : Program) (m : Store) (fs : List Frame) (threads room : ℕ) where
   abbrev awaiting : Bool → Option Frame
   awaiting b = cond b (Some (waiting fs)) None
 
-  leads_resumed : (x d : ℕ) → length fs ≡ suc (suc d) → made fs m (leading (returning p F (awaiting true) x)) ≡ return_by x true (suc (suc d))
+  leads_resumed : (x d : ℕ) → length fs ≡ suc (suc d) → made fs m (becomes led (returning p F (awaiting true) x)) ≡ return_by x true (suc (suc d))
   leads_resumed x d e =
       let one : length fs - 1 ≡ suc d = omega arith in
       let two : length fs - 2 ≡ d = omega arith in
-      granted_turn (λ r. made fs m (leading r)) (Some (resumed p F (waiting fs) x)) (Does (returned p m fs x (suc (suc d))) None) (λ k. refl)
+      granted_turn (λ r. made fs m (becomes led r)) (Some (resumed p F (waiting fs) x)) (Does (returned p m fs x (suc (suc d))) None) (λ k. refl)
       (ap (λ (n : ℕ). Does (record { status = Running; frames = set (take n fs) (length fs - 2) (resumed p F (waiting fs) x); memory = m; forked = None }) None) one
       ∙ ap (λ (n : ℕ). Does (record { status = Running; frames = set (take (suc d) fs) n (resumed p F (waiting fs) x); memory = m; forked = None }) None) two)
       (resuming p F (waiting fs) x)
@@ -118,12 +118,12 @@ module _ (p : Program) (m : Store) (fs : List Frame) (threads room : ℕ) where
   and_true true = refl
   and_true false = refl
 
-  leads_ended : (x n : ℕ) → returned p m fs x n ≡ record { status = Ended; frames = []; memory = m; forked = None } → made fs m (leading (returning p F (awaiting false) x)) ≡ return_by x false n
+  leads_ended : (x n : ℕ) → returned p m fs x n ≡ record { status = Ended; frames = []; memory = m; forked = None } → made fs m (becomes led (returning p F (awaiting false) x)) ≡ return_by x false n
   leads_ended x n e =
-      granted_turn (λ r. made fs m (leading r)) None (Does (returned p m fs x n) None) (λ k. refl) (ap (λ (c : Change). Does c None) (sym e)) (ending p F x)
+      granted_turn (λ r. made fs m (becomes led r)) None (Does (returned p m fs x n) None) (λ k. refl) (ap (λ (c : Change). Does c None) (sym e)) (ending p F x)
       ∙ ap (λ (b : Bool). unless (first ((71, b) ∷ (72, suits (callee p F.function).result (at F.slots x)) ∷ [])) (Does (returned p m fs x n) None)) (and_true (given F.slots x))
 
-  by_count : (x n : ℕ) → length fs ≡ n → (b : Bool) → ltb 1 n ≡ b → made fs m (leading (returning p F (awaiting b) x)) ≡ return_by x b n
+  by_count : (x n : ℕ) → length fs ≡ n → (b : Bool) → ltb 1 n ≡ b → made fs m (becomes led (returning p F (awaiting b) x)) ≡ return_by x b n
   by_count x zero e true t = let z : ◌≡◌ {A = ℕ} 0 1 = cc in absurd (omega arith)
   by_count x zero e false t = leads_ended x zero refl
   by_count x (suc zero) e true t = let z : ◌≡◌ {A = ℕ} 0 1 = cc in absurd (omega arith)
@@ -131,8 +131,8 @@ module _ (p : Program) (m : Store) (fs : List Frame) (threads room : ℕ) where
   by_count x (suc (suc d)) e true t = leads_resumed x d e
   by_count x (suc (suc d)) e false t = let l : suc (suc d) ≤ 1 = ltb-false 1 (suc (suc d)) t in absurd (omega arith)
 
-  pub return_made : (x : ℕ) (w : Option Frame) → w ≡ awaiting (ltb 1 (length fs)) → made fs m (leading (returning p F w x)) ≡ by_way p m fs threads room (way p m fs (Return x))
-  return_made x w e = ap (λ (o : Option Frame). made fs m (leading (returning p F o x))) e ∙ by_count x (length fs) refl (ltb 1 (length fs)) refl
+  pub return_made : (x : ℕ) (w : Option Frame) → w ≡ awaiting (ltb 1 (length fs)) → made fs m (becomes led (returning p F w x)) ≡ by_way p m fs threads room (way p m fs (Return x))
+  return_made x w e = ap (λ (o : Option Frame). made fs m (becomes led (returning p F o x))) e ∙ by_count x (length fs) refl (ltb 1 (length fs)) refl
 
   -- every record
   pub acted_made : (w : Option Frame) → w ≡ awaiting (ltb 1 (length fs)) → (op : Op) → made fs (memory_after m (alone p m F room op)) (acted p m F w (length fs) threads room op) ≡ by_way p m fs threads room (way p m fs op)

@@ -1,20 +1,21 @@
 -- The code's turn of a thread, from the frames that it finds.
-use Rattle.std.proofs.Common.{◌≡◌, ℕ, Bool, true, false, cond, ltb, List, [], ◌∷◌, ◌++◌, length, Some, None, Ok, Err, Option, Result, sym, refl, ap, ◌∙◌, subst, arith}
+use Rattle.std.proofs.Common.{◌≡◌, ℕ, Bool, true, false, cond, ltb, List, [], ◌∷◌, ◌++◌, length, reverse, Some, None, Ok, Err, Option, Result, sym, refl, ap, ◌∙◌, subst, arith}
+use Rattle.std.specs.List.{slice_get}
 use Rattle.std.proofs.lemmas.Bool.{ltb-true}
 use Rattle.table.specs.Records.{Op, New, Null, Int, Share, Own, Get, Take, Set, Add, Call, Fork, Return, Again, Join, Emit, Ask}
 use Rattle.table.specs.Program.{Program}
 use Rattle.rules.specs.Rules.{Premise, first}
 use Rattle.memory.specs.Model.{Store}
 use Rattle.machine.specs.declared.threads.Frame.{Frame}
-use Rattle.machine.specs.World.{op_at}
 use Rattle.machine.specs.Ways.{Way, newest, standing, stopped, way}
 use Rattle.machine.specs.declared.threads.Status.TheVariants.{Halted}
 use Rattle.machine.specs.Steps.{Turn, Fails, Does, unless, room_for, by_way, taking}
-use Rattle.machine.specs.Stacks.{below}
 use Rattle.stepping.specs.declared.turning.Outcome.{Outcome}
+use Rattle.stepping.specs.declared.turning.Outcome.TheVariants.{Goes, Calls, Forks}
 use Rattle.machine.specs.Alone.{alone, done_of, memory_after}
 use Rattle.stepping.specs.Calling.{granted, handing, handed, forking, returning}
-use Rattle.stepping.specs.Turns.{going, calling, forked, leading, acted, made, Listed, FitsIn}
+use Rattle.stepping.specs.Turns.{becomes, led, acted, made, Listed, FitsIn}
+use Rattle.stepping.proofs.Frames.{from_end}
 use Rattle.stepping.proofs.Turned.{leaves_memory}
 use Rattle.stepping.proofs.Made.{acted_made}
 
@@ -29,29 +30,29 @@ granted_past P x k b f h (q ∷ qs) = by q.1 (granted_past P x k b f h qs)
     by false g = f q.0
 
 -- a record that puts nothing out, and one that asks for room first
-pub going_fits : (p : Program) (m : Store) (fs : List Frame) (depth threads n room : ℕ) (w : Way) → w.out ≡ None → FitsIn depth threads room (going (done_of (by_way p m fs n room w)))
+pub going_fits : (p : Program) (m : Store) (fs : List Frame) (depth threads n room : ℕ) (w : Way) → w.out ≡ None → FitsIn depth threads room (becomes Goes (done_of (by_way p m fs n room w)))
 going_fits p m fs depth threads n room w e = by (first w.asks) w.halts (first (room_for p m fs n room w.limit))
   where
-    by : (x : Option ℕ) (b : Bool) (y : Option ℕ) → FitsIn depth threads room (going (done_of (unless x (cond b (Does (stopped p m fs Halted fs) None) (unless y (Does w.change w.out))))))
+    by : (x : Option ℕ) (b : Bool) (y : Option ℕ) → FitsIn depth threads room (becomes Goes (done_of (unless x (cond b (Does (stopped p m fs Halted fs) None) (unless y (Does w.change w.out))))))
     by (Some k) b y = tt
     by None true y = tt
     by None false (Some k) = tt
     by None false None = subst (Listed room) (sym e) tt
 
-emit_fits : (p : Program) (m : Store) (F : Frame) (depth threads room x : ℕ) → FitsIn depth threads room (going (done_of (alone p m F room (Emit x))))
+emit_fits : (p : Program) (m : Store) (F : Frame) (depth threads room x : ℕ) → FitsIn depth threads room (becomes Goes (done_of (alone p m F room (Emit x))))
 emit_fits p m F depth threads room x = by (first (way p m (F ∷ []) (Emit x)).asks) (ltb 0 room) refl
   where
-    by : (o : Option ℕ) (b : Bool) → ltb 0 room ≡ b → FitsIn depth threads room (going (done_of (unless o (unless (first ((68, b) ∷ [])) (Does (way p m (F ∷ []) (Emit x)).change (way p m (F ∷ []) (Emit x)).out)))))
+    by : (o : Option ℕ) (b : Bool) → ltb 0 room ≡ b → FitsIn depth threads room (becomes Goes (done_of (unless o (unless (first ((68, b) ∷ [])) (Does (way p m (F ∷ []) (Emit x)).change (way p m (F ∷ []) (Emit x)).out)))))
     by (Some k) b e = tt
     by None true e = ltb-true 0 room e
     by None false e = tt
 
-leading_fits : (depth threads room : ℕ) (r : Result (Option Frame) ℕ) → FitsIn depth threads room (leading r)
+leading_fits : (depth threads room : ℕ) (r : Result (Option Frame) ℕ) → FitsIn depth threads room (becomes led r)
 leading_fits depth threads room (Ok None) = tt
 leading_fits depth threads room (Ok (Some F)) = tt
 leading_fits depth threads room (Err n) = tt
 
-going_kept : (m : Store) (t : Turn) (n : ℕ) → going (done_of t) ≡ Err n → memory_after m t ≡ m
+going_kept : (m : Store) (t : Turn) (n : ℕ) → becomes Goes (done_of t) ≡ Err n → memory_after m t ≡ m
 going_kept m (Fails k) n e = refl
 going_kept m (Does c out) n e = let z : ◌≡◌ {A = ℕ} 0 1 = cc in absurd (omega arith)
 
@@ -60,7 +61,7 @@ module _ (p : Program) (m : Store) (F : Frame) (w : Option Frame) (depth threads
   act_of = acted p m F w depth threads room
 
   -- a call that is not refused has room for its frame, a fork for its thread, and a number for its place in the list
-  fits_within : (op : Op) → (way p m (F ∷ []) op).out ≡ None → FitsIn depth threads room (going (done_of (alone p m F room op)))
+  fits_within : (op : Op) → (way p m (F ∷ []) op).out ≡ None → FitsIn depth threads room (becomes Goes (done_of (alone p m F room op)))
   fits_within op e = going_fits p m (F ∷ []) depth threads 0 room (way p m (F ∷ []) op) e
 
   pub acted_fits : (op : Op) → FitsIn depth threads room (act_of op)
@@ -73,8 +74,8 @@ module _ (p : Program) (m : Store) (F : Frame) (w : Option Frame) (depth threads
   acted_fits (Take z x f) = fits_within (Take z x f) refl
   acted_fits (Set z x f y) = fits_within (Set z x f y) refl
   acted_fits (Add z x y) = fits_within (Add z x y) refl
-  acted_fits (Call z n args) = granted_past (λ r. FitsIn depth threads room (calling r)) (handed p F n args) 66 (ltb depth 8) (λ k. tt) (ltb-true depth 8) (handing p F (ltb z 16) n args ((73, ltb n (length p.functions)) ∷ []))
-  acted_fits (Fork n args) = granted_past (λ r. FitsIn depth threads room (forked r)) (forking p F n args) 67 (ltb threads 8) (λ k. tt) (ltb-true threads 8) (handing p F true n args ((73, ltb n (length p.functions)) ∷ []))
+  acted_fits (Call z n args) = granted_past (λ r. FitsIn depth threads room (becomes Calls r)) (handed p F n args) 66 (ltb depth 8) (λ k. tt) (ltb-true depth 8) (handing p F (ltb z 16) n args ((73, ltb n (length p.functions)) ∷ []))
+  acted_fits (Fork n args) = granted_past (λ r. FitsIn depth threads room (becomes Forks r)) (forking p F n args) 67 (ltb threads 8) (λ k. tt) (ltb-true threads 8) (handing p F true n args ((73, ltb n (length p.functions)) ∷ []))
   acted_fits (Return x) = leading_fits depth threads room (returning p F w x)
   acted_fits (Again args) = fits_within (Again args) refl
   acted_fits (Join n) = fits_within (Join n) refl
@@ -102,28 +103,11 @@ module _ (p : Program) (m : Store) (F : Frame) (w : Option Frame) (depth threads
 
 -- the record before the newest frame
 module _ (p : Program) (fs : List Frame) where
-  pub stands-nowhere : None ≡ below fs 0 → None ≡ standing p fs
-  stands-nowhere = by (ltb 0 (length fs))
-    where
-      by : (b : Bool) → None ≡ cond b (Some (newest fs)) None → None ≡ cond b (op_at p (newest fs)) None
-      by true h = let z : ◌≡◌ {A = ℕ} 0 1 = cc in absurd (omega arith)
-      by false h = refl
-
-  pub stands_at : (F : Frame) → Some F ≡ below fs 0 → (F ≡ newest fs) × (op_at p F ≡ standing p fs)
-  stands_at F = by (ltb 0 (length fs))
-    where
-      by : (b : Bool) → Some F ≡ cond b (Some (newest fs)) None → (F ≡ newest fs) × (op_at p F ≡ cond b (op_at p (newest fs)) None)
-      by true h = let e : F ≡ newest fs = cc in (e, ap (op_at p) e)
-      by false h = let z : ◌≡◌ {A = ℕ} 0 1 = cc in absurd (omega arith)
-
   module _ (m : Store) (threads room : ℕ) where
-    pub takes_nothing : None ≡ standing p fs → Fails 70 ≡ taking p m fs threads room (standing p fs)
-    takes_nothing e = ap (taking p m fs threads room) e
-
-    pub takes : (n : Store) (F : Frame) (w : Option Frame) (d : ℕ) (op : Op) (r : Result Outcome ℕ) → F ≡ newest fs → w ≡ below fs 1 → d ≡ length fs → Some op ≡ standing p fs
+    pub takes : (n : Store) (F : Frame) (w : Option Frame) (d : ℕ) (op : Op) (r : Result Outcome ℕ) → F ≡ newest fs → w ≡ slice_get (reverse fs) 1 → d ≡ length fs → Some op ≡ standing p fs
         → r ≡ acted p m F w d threads room op → n ≡ memory_after m (alone p m F room op) → made fs n r ≡ taking p m fs threads room (standing p fs)
     takes n F w d op r e_f ew ed es hr hn =
         ap (λ (k : Store). made fs k r) (hn ∙ ap (λ (G : Frame). memory_after m (alone p m G room op)) e_f)
         ∙ ap (made fs (memory_after m (alone p m (newest fs) room op))) (hr ∙ ap (λ (G : Frame). acted p m G w d threads room op) e_f ∙ ap (λ (k : ℕ). acted p m (newest fs) w k threads room op) ed)
-        ∙ acted_made p m fs threads room w ew op
+        ∙ acted_made p m fs threads room w (ew ∙ from_end fs 1) op
         ∙ ap (taking p m fs threads room) es

@@ -1,7 +1,8 @@
 -- What a thread touches, and the first pair of threads that touch one field.
-use Rattle.std.proofs.Common.{◌≡◌, ℕ, suc, ◌+◌, ◌<◌, ◌≤◌, true, false, cond, ltb, List, [], ◌∷◌, map, length, get_or, drop, Some, None, Option, sym, refl, ap, ◌∙◌, inl, inr, add-one, arith}
-use Rattle.std.proofs.lemmas.List.{at_drop_more, at_drop_all}
-use Rattle.std.proofs.lemmas.Bool.{cases_Bool, cond-true, cond-false}
+use Rattle.std.proofs.Common.{◌≡◌, ℕ, suc, ◌+◌, Bool, true, false, cond, ◌&&◌, eqb, List, [], ◌∷◌, map, reverse, Some, None, Option, sym, refl, ap, ap₂, ◌∙◌, arith}
+use Rattle.std.specs.List.{slice_get, position_from}
+use Rattle.std.specs.Option.{option_map}
+use Rattle.std.proofs.lemmas.Bool.Decides.{nat_tests}
 use Rattle.table.specs.Records as said
 use Rattle.table.specs.Records.{Op}
 use Rattle.table.specs.Program.{Program}
@@ -10,10 +11,10 @@ use Rattle.machine.specs.declared.clashing.Clash.{Clash}
 use Rattle.machine.specs.declared.threads.Frame.{Frame}
 use Rattle.machine.specs.declared.threads.Thread.{Thread}
 use Rattle.machine.specs.World.{task_of, op_at}
-use Rattle.machine.specs.Stacks.{below}
 use Rattle.machine.specs.Ways.{newest, standing}
-use Rattle.machine.specs.Clashes.{touch_by, touch, meets, partner, or_else, clash_from}
-use Rattle.stepping.specs.Touching.{no_thread, touches_too}
+use Rattle.machine.specs.Clashes.{touch_by, touch, meets, partner}
+use Rattle.stepping.specs.Touching.{touches_too}
+use Rattle.stepping.proofs.Frames.{stands_at}
 
 -- of a thread's frames only the newest counts
 newest_alone : (p : Program) (m : Store) (fs : List Frame) (o : Option Op) → touch_by p m (newest fs ∷ []) o ≡ touch_by p m fs o
@@ -35,68 +36,41 @@ newest_alone p m fs (Some (said.Join n)) = refl
 newest_alone p m fs (Some (said.Emit x)) = refl
 newest_alone p m fs (Some (said.Ask q a b)) = refl
 
--- what the frame that lies none below the newest touches
-pub touch_newest : (p : Program) (m : Store) (fs : List Frame) (F : Frame) → Some F ≡ below fs 0 → touch_by p m (F ∷ []) (op_at p F) ≡ touch_by p m fs (standing p fs)
+-- what the newest frame touches
+pub touch_newest : (p : Program) (m : Store) (fs : List Frame) (F : Frame) → Some F ≡ slice_get (reverse fs) 0 → touch_by p m (F ∷ []) (op_at p F) ≡ touch_by p m fs (standing p fs)
 touch_newest p m fs F e =
-    elim (cases_Bool (ltb 0 (length fs))) [
-      | inl h ↦
-          (let found : Some F ≡ Some (newest fs) = e ∙ cond-true (ltb 0 (length fs)) (Some (newest fs)) None h in
-          let is : F ≡ newest fs = cc in
-          ap (λ G. touch_by p m (G ∷ []) (op_at p G)) is
-          ∙ newest_alone p m fs (op_at p (newest fs))
-          ∙ ap (touch_by p m fs) (sym (cond-true (ltb 0 (length fs)) (op_at p (newest fs)) None h)))
-      | inr h ↦
-          (let none : Some F ≡ None = e ∙ cond-false (ltb 0 (length fs)) (Some (newest fs)) None h in
-          let z : ◌≡◌ {A = ℕ} 0 1 = cc in
-          absurd (omega arith))
-    ]
+    let s = stands_at p fs F e in
+    ap (λ (G : Frame). touch_by p m (G ∷ []) (op_at p F)) s.0 ∙ newest_alone p m fs (op_at p F) ∙ ap (touch_by p m fs) s.1
+
+same_either : (a b : ℕ) → eqb a b ≡ eqb b a
+same_either a b = grind (arith, nat_tests)
 
 -- one thread against another, by whether it touches the same
 meets_by : (k l : ℕ) (t : ℕ × ℕ) (w : Option (ℕ × ℕ)) (rest : Option Clash) → meets k l t w rest ≡ cond (touches_too t w) (Some (record { lower = k; higher = l; object = t.0; field = t.1 })) rest
 meets_by k l t None rest = refl
-meets_by k l t (Some u) rest = refl
+meets_by k l t (Some u) rest = ap₂ (λ a b. cond (a && b) (Some (record { lower = k; higher = l; object = t.0; field = t.1 })) rest) (same_either t.0 u.0) (same_either t.1 u.1)
 
--- The turn, the find and the end of a search for a thread's partner.
-module _ (p : Program) (m : Store) (k : ℕ) (t : ℕ × ℕ) (ts : List Thread) (l : ℕ) where
-  abbrev pub partner_left : Option Clash
-  partner_left = partner p m k (Some t) l (map task_of (drop l ts))
+module _ (p : Program) (m : Store) (k : ℕ) (t : ℕ × ℕ) where
+  abbrev pub touches : Thread → Bool
+  touches u = touches_too t (touch p m (task_of u))
 
-  partner_more : l < length ts
-      → partner_left ≡ cond (touches_too t (touch p m (task_of (get_or ts l no_thread)))) (Some (record { lower = k; higher = l; object = t.0; field = t.1 })) (partner p m k (Some t) (suc l) (map task_of (drop (l + 1) ts)))
-  partner_more h =
-      at_drop_more (λ us. partner p m k (Some t) l (map task_of us)) ts l no_thread h
-      ∙ meets_by k l t (touch p m (task_of (get_or ts l no_thread))) (partner p m k (Some t) (suc l) (map task_of (drop (l + 1) ts)))
+  abbrev pub clash_at : ℕ → Clash
+  clash_at l = record { lower = k; higher = l; object = t.0; field = t.1 }
 
-  pub partner_found : l < length ts → touches_too t (touch p m (task_of (get_or ts l no_thread))) ≡ true → partner_left ≡ Some (record { lower = k; higher = l; object = t.0; field = t.1 })
-  partner_found h e = partner_more h ∙ cond-true _ _ _ e
+  -- the partner is the first thread that touches the same
+  pub partner_from : (l n : ℕ) (us : List Thread) → option_map (λ i. clash_at (l + i)) (position_from touches n us) ≡ partner p m k (Some t) (l + n) (map task_of us)
+  partner_from l n [] = refl
+  partner_from l n (u ∷ us) = by (touches u) (partner_from l (n + 1) us) ∙ sym (meets_by k (l + n) t (touch p m (task_of u)) (partner p m k (Some t) (suc (l + n)) (map task_of us)))
+    where
+      by : (b : Bool) → option_map (λ i. clash_at (l + i)) (position_from touches (n + 1) us) ≡ partner p m k (Some t) (l + (n + 1)) (map task_of us)
+          → option_map (λ i. clash_at (l + i)) (cond b (Some n) (position_from touches (n + 1) us)) ≡ cond b (Some (clash_at (l + n))) (partner p m k (Some t) (suc (l + n)) (map task_of us))
+      by true h = refl
+      by false h = let e : l + (n + 1) ≡ suc (l + n) = omega arith in h ∙ ap (λ (j : ℕ). partner p m k (Some t) j (map task_of us)) e
 
-  pub partner_next : l < length ts → touches_too t (touch p m (task_of (get_or ts l no_thread))) ≡ false → partner_left ≡ partner p m k (Some t) (l + 1) (map task_of (drop (l + 1) ts))
-  partner_next h e = partner_more h ∙ cond-false _ _ _ e ∙ ap (λ n. partner p m k (Some t) n (map task_of (drop (l + 1) ts))) (sym (add-one l))
-
-  pub partner_none : length ts ≤ l → partner_left ≡ None
-  partner_none h = at_drop_all (λ us. partner p m k (Some t) l (map task_of us)) ts l h
-
--- The same of the search for a pair.
-module _ (p : Program) (m : Store) (ts : List Thread) (k : ℕ) where
-  abbrev pub pairs_left : Option Clash
-  pairs_left = clash_from p m k (map task_of (drop k ts))
-
-  abbrev pub partner_of : Option Clash
-  partner_of = partner p m k (touch p m (task_of (get_or ts k no_thread))) (suc k) (map task_of (drop (suc k) ts))
-
-  pairs_more : k < length ts → pairs_left ≡ or_else partner_of (clash_from p m (suc k) (map task_of (drop (suc k) ts)))
-  pairs_more h =
-      at_drop_more (λ us. clash_from p m k (map task_of us)) ts k no_thread h
-      ∙ ap (λ n. or_else (partner p m k (touch p m (task_of (get_or ts k no_thread))) (suc k) (map task_of (drop n ts))) (clash_from p m (suc k) (map task_of (drop n ts)))) (add-one k)
-
-  pub pair_found : (c : Clash) → k < length ts → Some c ≡ partner_of → pairs_left ≡ Some c
-  pair_found c h e = pairs_more h ∙ ap (λ o. or_else o (clash_from p m (suc k) (map task_of (drop (suc k) ts)))) (sym e)
-
-  pub pair_next : k < length ts → None ≡ partner_of → pairs_left ≡ clash_from p m (k + 1) (map task_of (drop (k + 1) ts))
-  pair_next h e =
-      pairs_more h
-      ∙ ap (λ o. or_else o (clash_from p m (suc k) (map task_of (drop (suc k) ts)))) (sym e)
-      ∙ ap (λ n. clash_from p m n (map task_of (drop n ts))) (sym (add-one k))
-
-  pub pair_none : length ts ≤ k → pairs_left ≡ None
-  pair_none h = at_drop_all (λ us. clash_from p m k (map task_of us)) ts k h
+  pub partner_by : (w : Option (ℕ × ℕ)) (us : List Thread) (r : Option ℕ) → Some t ≡ w → r ≡ position_from touches 0 us → option_map (λ i. clash_at (k + 1 + i)) r ≡ partner p m k w (suc k) (map task_of us)
+  partner_by w us r e h =
+      let n : (k + 1) + 0 ≡ suc k = omega arith in
+      ap (option_map (λ i. clash_at (k + 1 + i))) h
+      ∙ partner_from (k + 1) 0 us
+      ∙ ap (λ (l : ℕ). partner p m k (Some t) l (map task_of us)) n
+      ∙ ap (λ v. partner p m k v (suc k) (map task_of us)) e

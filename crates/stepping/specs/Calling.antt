@@ -1,28 +1,30 @@
 -- Calls, forks, `again` and returns: what they ask, and the frames that they leave.
-use Rattle.std.specs.Prelude.{ℕ, suc, ◌<◌, Bool, cond, ◌&&◌, List, [], ◌∷◌, Some, None, Ok, Err, Option, Result, slice_set}
+use Rattle.std.specs.Prelude.{ℕ, suc, Bool, cond, ◌&&◌, List, [], ◌∷◌, Some, None, Ok, Err, Option, Result, slice_index_or, slice_set}
 use Rattle.table.specs.declared.types.Ty.{Ty}
 use Rattle.table.specs.declared.records.Record.{Record}
+use Rattle.table.specs.Records.{Op, meant}
 use Rattle.table.specs.Program.{Program}
-use Rattle.rules.specs.Rules.{Premise, callee}
+use Rattle.rules.specs.Rules.{Premise, callee, number}
+use Rattle.machine.specs.declared.threads.Slot.{Slot}
 use Rattle.machine.specs.declared.threads.Frame.{Frame}
 use Rattle.machine.specs.Values.{at, given, suits, all_given, all_suit, leaving, passing}
 use Rattle.machine.specs.World.{op_at}
 use Rattle.machine.specs.Ways.{is_call, call_slot, is_slot}
 use Rattle.stepping.specs.declared.calls.Passed.{Passed}
 
--- a record that is there is one of at most 255
-abbrev pub Near : ℕ → Option Record → Type 0
-Near i None = Unit {0}
-Near i (Some r) = i < 255
-
-abbrev pub NearSlot : ℕ → Option ℕ → Type 0
-NearSlot i None = Unit {0}
-NearSlot i (Some z) = i < 255
+-- the op of the record that a frame stands before
+abbrev pub op_of : Option (Frame × Record) → Option Op
+op_of None = None
+op_of (Some q) = Some (meant q.1)
 
 -- a value, unless something that is asked does not hold
 abbrev pub granted : {X : Type 0} → List Premise → X → Result X ℕ
 granted [] x = Ok x
 granted (q ∷ qs) x = cond q.1 (granted qs x) (Err q.0)
+
+-- whether the operand that comes with its number suits the parameter of that number
+abbrev pub suit_at : List Slot → List Ty → ℕ × ℕ → Bool
+suit_at vs ts q = suits (slice_index_or ts q.0 number) (at vs q.1)
 
 module _ (p : Program) (F : Frame) where
   abbrev pub params : ℕ → List Ty

@@ -1,12 +1,13 @@
 -- A turn put into the machine, and a step of it.
 use Rattle.std.specs.Prelude.{ℕ, List, [], ◌∷◌, ◌++◌, Some, None, Ok, Err, Option, Result, slice_index_or, slice_set}
 use Rattle.table.specs.declared.fault.Fault.{Fault}
-use Rattle.table.specs.Faults.{Passes}
+use Rattle.table.specs.declared.fault.Refusal.{Refusal}
+use Rattle.table.specs.Faults.{Passes, number_of}
 use Rattle.machine.specs.declared.threads.Frame.{Frame}
 use Rattle.machine.specs.declared.threads.Status.TheVariants.{Running, Ended}
 use Rattle.machine.specs.World.{Task, no_task}
 use Rattle.machine.specs.Stacks.{with_newest, returned_to}
-use Rattle.machine.specs.Steps.{Taken, joined}
+use Rattle.machine.specs.Steps.{Taken, joined, step_fault}
 use Rattle.stepping.specs.declared.turning.Outcome.{Outcome}
 use Rattle.stepping.specs.declared.turning.Outcome.TheVariants.{Goes, Calls, Forks, Resumes, Ends}
 
@@ -40,6 +41,11 @@ out_of Ends = None
 abbrev pub passes : Result Taken Fault → Passes
 passes (Ok t) = Ok tt
 passes (Err e) = Err e
+
+-- a turn of thread i, refused with what names the thread
+abbrev pub faulted : ℕ → Result Outcome Refusal → Result Outcome Fault
+faulted i (Ok o) = Ok o
+faulted i (Err r) = Err (step_fault i (number_of r))
 
 -- a list with the number that a step puts out
 abbrev pub listed : List ℕ → Option ℕ → List ℕ

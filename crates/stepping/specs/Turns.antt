@@ -5,36 +5,27 @@ use Rattle.table.specs.Program.{Program}
 use Rattle.memory.specs.Model.{Store}
 use Rattle.machine.specs.declared.threads.Frame.{Frame}
 use Rattle.machine.specs.declared.threads.Status.TheVariants.{Running, Ended}
-use Rattle.machine.specs.declared.frames.Done.{Done}
 use Rattle.machine.specs.Steps.{Turn, Fails, Does}
-use Rattle.stepping.specs.declared.calls.Passed.{Passed}
 use Rattle.stepping.specs.declared.turning.Outcome.{Outcome}
 use Rattle.stepping.specs.declared.turning.Outcome.TheVariants.{Goes, Calls, Forks, Resumes, Ends}
 use Rattle.machine.specs.Alone.{alone, done_of}
 use Rattle.stepping.specs.Calling.{granted, handed, forking, handing, returning}
 
-abbrev pub going : Result Done ℕ → Result Outcome ℕ
-going (Ok d) = Ok (Goes d)
-going (Err n) = Err n
+-- what becomes of what is not refused
+abbrev pub becomes : {X : Type 0} → (X → Outcome) → Result X ℕ → Result Outcome ℕ
+becomes f (Ok x) = Ok (f x)
+becomes f (Err n) = Err n
 
-abbrev pub calling : Result Passed ℕ → Result Outcome ℕ
-calling (Ok q) = Ok (Calls q)
-calling (Err n) = Err n
-
-abbrev pub forked : Result Passed ℕ → Result Outcome ℕ
-forked (Ok q) = Ok (Forks q)
-forked (Err n) = Err n
-
-abbrev pub leading : Result (Option Frame) ℕ → Result Outcome ℕ
-leading (Ok (Some F)) = Ok (Resumes F)
-leading (Ok None) = Ok Ends
-leading (Err n) = Err n
+-- a frame that waits is resumed, and without one the thread ends
+abbrev pub led : Option Frame → Outcome
+led None = Ends
+led (Some F) = Resumes F
 
 -- the newest frame F of a thread with so many frames, over another that may wait, in a machine with so many threads
 module _ (p : Program) (m : Store) (F : Frame) (waiting : Option Frame) (depth threads room : ℕ) where
   -- a record that leads on within its frame
   abbrev pub within : Op → Result Outcome ℕ
-  within op = going (done_of (alone p m F room op))
+  within op = becomes Goes (done_of (alone p m F room op))
 
   abbrev pub acted : Op → Result Outcome ℕ
   acted (New z s) = within (New z s)
@@ -46,9 +37,9 @@ module _ (p : Program) (m : Store) (F : Frame) (waiting : Option Frame) (depth t
   acted (Take z x f) = within (Take z x f)
   acted (Set z x f y) = within (Set z x f y)
   acted (Add z x y) = within (Add z x y)
-  acted (Call z n args) = calling (granted (handing p F (nat_lt z 16) n args ((73, nat_lt n (length p.functions)) ∷ (66, nat_lt depth 8) ∷ [])) (handed p F n args))
-  acted (Fork n args) = forked (granted (handing p F true n args ((73, nat_lt n (length p.functions)) ∷ (67, nat_lt threads 8) ∷ [])) (forking p F n args))
-  acted (Return x) = leading (returning p F waiting x)
+  acted (Call z n args) = becomes Calls (granted (handing p F (nat_lt z 16) n args ((73, nat_lt n (length p.functions)) ∷ (66, nat_lt depth 8) ∷ [])) (handed p F n args))
+  acted (Fork n args) = becomes Forks (granted (handing p F true n args ((73, nat_lt n (length p.functions)) ∷ (67, nat_lt threads 8) ∷ [])) (forking p F n args))
+  acted (Return x) = becomes led (returning p F waiting x)
   acted (Again args) = within (Again args)
   acted (Join n) = within (Join n)
   acted (Emit x) = within (Emit x)

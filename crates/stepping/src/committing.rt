@@ -27,10 +27,12 @@ fn settle(thread: &mut Thread, outcome: Outcome)
 
 // Puts an outcome into the machine: its thread, and the thread that a fork begins.
 pub(crate) fn commit(machine: &mut Machine, thread: usize, outcome: Outcome)
-    requires { (thread < 8) × ((thread < length (tasks_of machine.old)) × (FitsIn (length (slice_index_or (tasks_of machine.old) thread no_task).frames) (length (tasks_of machine.old)) 1 (Ok outcome))) }
+    requires there { thread < length (tasks_of machine.old) }
+    requires fits { FitsIn (length (slice_index_or (tasks_of machine.old) thread no_task).frames) (length (tasks_of machine.old)) 1 (Ok outcome) }
     ensures { tasks_of machine.new ≡ tasks_after (tasks_of machine.old) thread outcome }
 {
-    settle(&mut machine.threads[thread], outcome);
+    let threads: &mut [Thread] = &mut machine.threads.items;
+    settle(&mut threads[thread], outcome);
     if let Outcome::Forks(passed) = outcome {
         machine.spawn(passed.callee);
     }

@@ -1,6 +1,7 @@
 // One step of a machine's thread.
 ghost use Rattle.std.specs.Prelude.{◌≡◌, ◌-◌, length, slice_index_or};
 ghost use Rattle.list.specs.Held.{held, room};
+ghost use Rattle.table.specs.Faults.{number_of};
 ghost use Rattle.table.specs.Reading.{program_of};
 ghost use Rattle.machine.specs.World.{world_of, no_task, is_running};
 ghost use Rattle.machine.specs.Stacks.{tasks_of};
@@ -10,30 +11,32 @@ ghost use Rattle.stepping.specs.Committing.{out_of, passes, listed};
 use super::committing::commit;
 use super::turning::{Outcome, turn};
 use list::Bounded;
-use machine::threads::{Machine, Status, Thread};
+use machine::threads::{Machine, Status};
 use memory::keeping::Memory;
+use table::fault::{Refusal, require};
 use table::{Fault, Place, Table};
 
 // Whether there is such a thread, and it is running.
 fn runs(machine: &Machine, thread: usize) -> bool
     ensures { result ≡ is_running (slice_index_or (tasks_of machine.now) thread no_task).status }
 {
-    if thread >= machine.len() {
-        return false;
-    }
-    let threads: &[Thread] = &machine.threads;
-    matches!(threads[thread].status, Status::Running)
+    machine
+        .threads
+        .all()
+        .get(thread)
+        .is_some_and(|thread| thread.status == Status::Running)
 }
 
 // What refuses a step of a thread; the memory's own refusals name nothing.
-fn refusal(thread: usize, number: u8) -> Fault
-    ensures { result ≡ step_fault thread number }
+fn refusal(thread: usize, refused: Refusal) -> Fault
+    ensures { result ≡ step_fault thread (number_of refused) }
 {
-    if number < 60 {
-        Fault::new(number, Place::Nothing)
+    let place = if refused.number() < 60 {
+        Place::Nothing
     } else {
-        Fault::new(number, Place::Thread(thread))
-    }
+        Place::Thread(thread)
+    };
+    refused.at(place)
 }
 
 // The number that an outcome puts out.
@@ -45,6 +48,8 @@ fn output(outcome: Outcome) -> Option<u32>
         _ => None,
     }
 }
+
+// Machine, memory and list are lent to each call: a rule of the project.
 
 // Steps a thread, and appends what it puts out to the list. A step that is refused changes nothing.
 pub fn step<M: Memory>(
@@ -59,19 +64,14 @@ pub fn step<M: Memory>(
     ensures out { held out.new ≡ listed (held out.old) (put_out (stepped (program_of table.now) (room out.old - length (held out.old)) (world_of machine.old (M.Memory.model memory.old)) thread)) }
     ensures room { room out.new ≡ room out.old }
 {
-    if !runs(machine, thread) {
-        return Err(refusal(thread, 64));
-    }
-    let count = machine.len();
+    require(runs(machine, thread), refusal(thread, Refusal::NotRunning))?;
+    let threads = machine.threads.all();
     let free = out.free();
-    match turn(table, memory, &machine.threads[thread], count, free) {
-        Err(number) => Err(refusal(thread, number)),
-        Ok(outcome) => {
-            commit(machine, thread, outcome);
-            if let Some(number) = output(outcome) {
-                out.push(number);
-            }
-            Ok(())
-        }
+    let turned = turn(table, memory, &threads[thread], threads.len(), free);
+    let outcome = turned.map_err(|refused| refusal(thread, refused))?;
+    commit(machine, thread, outcome);
+    if let Some(number) = output(outcome) {
+        out.push(number);
     }
+    Ok(())
 }

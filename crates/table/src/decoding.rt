@@ -37,6 +37,7 @@ fn decode_op<'t>(bytes: &'t [u8], number: u32) -> Option<Record<'t>>
     };
     // `add` has y where the others have f.
     let (z, x, f, y) = (*z, *x, *f, *y);
+    // An arm an op: this is where the enum is made.
     match *op {
         1 => Some(Record::New { z, s: x }),
         2 => Some(Record::Null { z, s: x }),
@@ -74,6 +75,7 @@ fn decode_test(bytes: &[u8]) -> Option<Test>
     };
     // A test of two slots alone has y where the others have f.
     let (x, f, y, g) = (*x, *f, *y, *g);
+    // An arm a test, as above.
     match *op {
         16 => Some(Test::Nil { x }),
         17 => Some(Test::Same { x, y: f }),

@@ -1,6 +1,6 @@
 // A refusal: its number, the layer that refuses, and the place that it names.
 ghost use Rattle.std.specs.Prelude.{◌≡◌, Bool};
-ghost use Rattle.table.specs.Faults.{layered, fault, need, number_of, required};
+ghost use Rattle.table.specs.Faults.{layered, fault, number_of, required};
 
 #[derive(Clone, Copy, Debug, PartialEq, Eq, Drop)]
 pub enum Layer {
@@ -65,6 +65,7 @@ pub enum Place {
     Thread(usize),
 }
 
+// That it carries its number, layer and place is a rule of the project; a number without a name may stand in one, too.
 #[derive(Clone, Copy, Debug, PartialEq, Eq, Drop)]
 pub struct Fault {
     pub number: u8,
@@ -120,15 +121,4 @@ pub fn require<E: Drop>(holds: bool, refusal: E) -> Result<(), E>
     ensures { result ≡ required holds refusal }
 {
     if holds { Ok(()) } else { Err(refusal) }
-}
-
-// Goes on where a condition holds, and is refused where it does not.
-pub fn demand(holds: bool, number: u8, place: Place) -> Result<(), Fault>
-    ensures { result ≡ need holds number place }
-{
-    if holds {
-        Ok(())
-    } else {
-        Err(Fault::new(number, place))
-    }
 }

@@ -10,7 +10,7 @@ pub struct Form {
     limit: u64,
 }
 
-// No number is below its limit, so no record fits it.
+// No number is below its limit, so no record fits it; an `Option` would say the same twice.
 const NO_OP: Form = Form {
     binds: false,
     operands: 0,
@@ -28,7 +28,7 @@ fn binding(operands: usize) -> Form
     }
 }
 
-// Such a record binds none.
+// Such a record binds none. Named as its definition is, as is `asking`, from which only its limit differs.
 fn silent(operands: usize) -> Form
     ensures { result ≡ silent operands }
 {
@@ -54,6 +54,7 @@ impl Form {
     pub fn of(op: u8) -> Form
         ensures { result ≡ form_of op }
     {
+        // By number: this is where an op's byte gets its form.
         match op {
             1 | 2 | 4 | 5 => binding(1),
             3 => Form {

@@ -31,6 +31,7 @@ fn set_fits(table: &Table, kind: Kind, s: u8, set: u8) -> bool
     ensures { result ≡ set_fits kind (struct_at (bytes_of table.now) s) set }
 {
     let mut rest = set;
+    // No chain: what is left of the set behind the last field is asked as well.
     for f in 0..table.field_total(s) {
         if !first_fits(kind, table.field_at(s, f), rest) {
             return false;

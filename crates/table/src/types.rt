@@ -1,6 +1,6 @@
 // Types and fields, as their bytes give them.
 ghost use Rattle.std.specs.Prelude.{◌≡◌};
-ghost use Rattle.table.specs.Types.{kind_of, mode_of, type_of, is_number, is_alias, is_owned, is_pristine, is_var, is_val, is_once, is_spec};
+ghost use Rattle.table.specs.Types.{kind_of, mode_of};
 
 // What a slot or a field of a type may hold.
 #[derive(Clone, Copy, Debug, Default, PartialEq, Eq, Drop)]
@@ -69,32 +69,6 @@ impl From<u8> for Kind {
     }
 }
 
-impl Kind {
-    pub fn is_number(self) -> bool
-        ensures { result ≡ is_number self }
-    {
-        matches!(self, Kind::Number)
-    }
-
-    pub fn is_alias(self) -> bool
-        ensures { result ≡ is_alias self }
-    {
-        matches!(self, Kind::Alias)
-    }
-
-    pub fn is_owned(self) -> bool
-        ensures { result ≡ is_owned self }
-    {
-        matches!(self, Kind::Owned)
-    }
-
-    pub fn is_pristine(self) -> bool
-        ensures { result ≡ is_pristine self }
-    {
-        matches!(self, Kind::Pristine)
-    }
-}
-
 // The mode of a field's first byte; `open` has refused a byte above 3.
 impl From<u8> for Mode {
     ghost from_gives = { λ byte mode. mode ≡ mode_of byte };
@@ -106,31 +80,5 @@ impl From<u8> for Mode {
             2 => Mode::Once,
             _ => Mode::Spec,
         }
-    }
-}
-
-impl Mode {
-    pub fn is_var(self) -> bool
-        ensures { result ≡ is_var self }
-    {
-        matches!(self, Mode::Var)
-    }
-
-    pub fn is_val(self) -> bool
-        ensures { result ≡ is_val self }
-    {
-        matches!(self, Mode::Val)
-    }
-
-    pub fn is_once(self) -> bool
-        ensures { result ≡ is_once self }
-    {
-        matches!(self, Mode::Once)
-    }
-
-    pub fn is_spec(self) -> bool
-        ensures { result ≡ is_spec self }
-    {
-        matches!(self, Mode::Spec)
     }
 }

@@ -23,6 +23,7 @@ pub enum Lacking {
 }
 
 // What an opened table holds. A struct, field, function or record that is not there has no fields, no type, no records.
+// Alike, but each of another part: one function would take the part as a closure, and say less.
 impl<'t> Table<'t> {
     pub fn structs(&self) -> usize
         ensures value { result ≡ length (program_of self.now).structs }
@@ -114,6 +115,7 @@ fn within(i: usize, total: u8) -> Option<u8>
 }
 
 // Reading by place. A byte past the table's end reads as 0, so that each of these has a value for any bytes.
+// Some are alike, but each is the definition of its name, with a number of its own.
 impl<'t> Table<'t> {
     pub(crate) fn over(bytes: &'t [u8]) -> Table<'t>
         ensures { bytes_of result ≡ bytes.now }
@@ -165,6 +167,7 @@ impl<'t> Table<'t> {
         usize::from(self.section_place(i)) + usize::from(length)
     }
 
+    // `near` stays where a place is any number: a type of its own would be made and taken apart at each call.
     pub(crate) fn type_at(&self, place: usize) -> Ty
         requires near { place < 2 ^ 32 }
         ensures { result ≡ type_at (bytes_of self.now) place }

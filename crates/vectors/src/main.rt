@@ -1,12 +1,16 @@
 // Rehearses each table of a list: a name, a space and the table's bytes in hexadecimal to a line.
 #![tactic(auto)]
 
+ghost use Rattle.std.specs.Prelude.{◌<◌, IfSome};
+
 use anyhow::anyhow;
 use report::rehearse;
 use std::alloc::Global;
 
-// The value of a hexadecimal digit.
-fn digit(b: u8) -> Option<u8> {
+// The value of a hexadecimal digit. `to_digit` takes capitals too, which the lists have none of.
+fn digit(b: u8) -> Option<u8>
+    ensures { IfSome result (λ d. d < 16) }
+{
     match b {
         b'0'..=b'9' => Some(b - b'0'),
         b'a'..=b'f' => Some(b - b'a' + 10),
@@ -24,7 +28,7 @@ fn unhex(heap: Global, text: &[u8]) -> anyhow::Result<Vec<u8>> {
         let (Some(high), Some(low)) = (digit(*high), digit(*low)) else {
             return Err(anyhow!("no hexadecimal digit"));
         };
-        bytes.push(((high & 15) << 4) | (low & 15))?;
+        bytes.push(16 * high + low)?;
     }
     Ok(bytes)
 }

@@ -1,5 +1,5 @@
 use Rattle.std.proofs.Common.{length-take, rules}
 use Rattle.list.proofs.Bounded.len.Goals as goal
 
-pub returns : goal.returns
-returns g c = record { value = rw length-take (search rules); bound = search rules }
+pub returns-clause-value : goal.returns-clause-value
+returns-clause-value g c = rw length-take (search rules)

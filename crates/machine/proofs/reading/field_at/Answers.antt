@@ -1,21 +1,19 @@
-use Rattle.std.proofs.Common.{get_or, ap, ◌∙◌}
-use Rattle.table.specs.Reading.{program_of, fields_of}
+use Rattle.std.proofs.Common.{ap, ◌∙◌}
+use Rattle.std.proofs.lemmas.Option.{unwrap_or-slice_get}
+use Rattle.std.specs.Option.{unwrap_or}
+use Rattle.table.specs.Reading.{program_of, field_of}
 use Rattle.rules.specs.Rules.{no_field}
-use Rattle.machine.proofs.Looking.{found_there, found_none}
+use Rattle.machine.specs.declared.threads.Slot.TheVariants.{Reference}
+use Rattle.machine.specs.Reading.{fields}
 use Rattle.machine.proofs.reading.field_at.Goals as goal
 
-pub returns-in-Some : goal.returns-in-Some
-returns-in-Some g c =
+pub returns : goal.returns
+returns g c =
+    let p = program_of c.args.table.now in
+    let m = g.M.Memory.model c.args.memory.now in
     record {
       value =
-          found_there (fields_of (program_of c.args.table.now) c.kind_of.result) c.args.f no_field c.in-Some.field c.in-Some.ensures
-          ∙ ap (λ k. get_or (fields_of (program_of c.args.table.now) k) c.args.f no_field) c.kind_of.ensures;
-    }
-
-pub returns-in-None : goal.returns-in-None
-returns-in-None g c =
-    record {
-      value =
-          found_none (fields_of (program_of c.args.table.now) c.kind_of.result) c.args.f no_field c.in-None.ensures
-          ∙ ap (λ k. get_or (fields_of (program_of c.args.table.now) k) c.args.f no_field) c.kind_of.ensures;
+          c.unwrap_or.ensures
+          ∙ ap (λ o. unwrap_or o no_field) (c.field.ensures ∙ ap (λ k. field_of p k c.args.f) c.kind_of.ensures)
+          ∙ unwrap_or-slice_get (fields p m (Reference c.args.object)) c.args.f no_field;
     }

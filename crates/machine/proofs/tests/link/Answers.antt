@@ -1,12 +1,16 @@
-use Rattle.std.proofs.Common.{◌≡◌, true, false, ◌&&◌, ◌||◌, Some, None, Ok, Err, sym, refl, ap, ◌∙◌, arith, rules}
+use Rattle.std.proofs.Common.{false, ◌||◌, set, Ok, Err, sym, refl, ap, ◌∙◌}
 use Rattle.std.proofs.lemmas.Result.{err_from_is_err_and}
-use Rattle.std.proofs.lemmas.Bool.Decides.{nat_tests}
+use Rattle.table.specs.Faults.{number_of, numbered}
 use Rattle.table.specs.Reading.{program_of}
-use Rattle.machine.specs.Values.{at, given, is_reference, is_null, word_of}
-use Rattle.machine.specs.Reading.{refers, cell}
-use Rattle.machine.specs.Tests.{spent_into, fields_ask}
-use Rattle.machine.proofs.Settling.{word_of_slot, left_of_slot, word_read}
-use Rattle.machine.proofs.Pairing.{pair_fails, pair_goes, pair_halts, pair_there, exchange_fails, exchange_halts, exchange_settles, exchange_51, second_word_fails, paired_as, none_null}
+use Rattle.machine.specs.declared.threads.Slot.{Slot}
+use Rattle.machine.specs.declared.reading.Pair.{Pair}
+use Rattle.machine.specs.Values.{at, is_null, word_of, left}
+use Rattle.machine.specs.Reading.{cell}
+use Rattle.machine.specs.Seeing.{pair_at}
+use Rattle.machine.specs.Tests.{fields_ask, spent_into}
+use Rattle.machine.proofs.Settling.{word_of_slot}
+use Rattle.machine.proofs.Pairing.{second_word_fails}
+use Rattle.machine.proofs.Exchanging.{found, test_fails, test_halts, test_51, test_exchanges}
 use Rattle.machine.proofs.tests.link.Goals as goal
 
 pub returns-in_err-pair : goal.returns-in_err-pair
@@ -19,15 +23,12 @@ returns-in_err-pair g c =
     let h = c.args.g in
     let p = program_of c.args.table.now in
     let m = g.M.Memory.model c.args.memory.now in
-    let there = given vs x && given vs y in
-    let kinds = is_reference (at vs x) && is_reference (at vs y) && refers p m (at vs x) f && refers p m (at vs y) h in
-    let a : (given vs x && given vs y) ≡ true = search rules in
-    let b : (is_reference (at vs x) && is_reference (at vs y) && refers p m (at vs x) f && refers p m (at vs y) h) ≡ true = search rules in
-    let n = c.in_err-pair.field-0.0 in
-    let s = paired_as p m c.at-a.result (at vs x) f c.at-b.result (at vs y) h (Err n) c.in_err-pair.ensures.value c.at-a.ensures c.at-b.ensures in
-    let done = exchange_fails p m F (fields_ask p m vs x f y h) (is_null (at vs x) || is_null (at vs y)) x f (cell p m (at vs y) h).word (word_of (at vs y)) n false (spent_into p m vs x f y) (pair_fails p m there kinds (at vs x) f (at vs y) h n a b s) in
-    let d = err_from_is_err_and c.from_residual-in_err-pair.result c.from_residual-in_err-pair.ensures.1 in
-    record { value = d.1 ∙ ap Err d.2 ∙ done.0; after = done.1 }
+    let asks = fields_ask p m vs x f y h in
+    let null = is_null (at vs x) || is_null (at vs y) in
+    let t = pair_at p m (at vs x) f (at vs y) h in
+    let done = test_fails p m F asks null x f (cell p m (at vs y) h).word (word_of (at vs y)) false (spent_into p m vs x f y) t (number_of c.in_err-pair.field-0.0) c.in_err-pair.ensures.value in
+    let d = err_from_is_err_and c.from_residual.result c.from_residual.ensures.1 in
+    record { value = ap numbered (d.1 ∙ ap Err d.2) ∙ done.0; after = done.1 }
 
 pub returns-in_default : goal.returns-in_default
 returns-in_default g c =
@@ -39,16 +40,10 @@ returns-in_default g c =
     let h = c.args.g in
     let p = program_of c.args.table.now in
     let m = g.M.Memory.model c.args.memory.now in
-    let there = given vs x && given vs y in
-    let kinds = is_reference (at vs x) && is_reference (at vs y) && refers p m (at vs x) f && refers p m (at vs y) h in
-    let a : (given vs x && given vs y) ≡ true = search rules in
-    let b : (is_reference (at vs x) && is_reference (at vs y) && refers p m (at vs x) f && refers p m (at vs y) h) ≡ true = search rules in
-    let rx : is_reference (at vs x) ≡ true = grind (arith, nat_tests) in
-    let ry : is_reference (at vs y) ≡ true = grind (arith, nat_tests) in
-    let s = paired_as p m c.at-a.result (at vs x) f c.at-b.result (at vs y) h (Ok None) (ap Ok (sym c.in_default.is) ∙ c.in_ok-pair.ensures.value) c.at-a.ensures c.at-b.ensures in
-    let q = pair_goes p m there kinds (at vs x) f (at vs y) h None a b s in
-    let off = pair_halts p m (at vs x) f (at vs y) h q.first_target q.second_target q.first_is q.second_is q.both_are rx ry in
-    let done = exchange_halts p m F (fields_ask p m vs x f y h) (is_null (at vs x) || is_null (at vs y)) x f (cell p m (at vs y) h).word (word_of (at vs y)) false (spent_into p m vs x f y) q.holds off in
+    let asks = fields_ask p m vs x f y h in
+    let null = is_null (at vs x) || is_null (at vs y) in
+    let t = pair_at p m (at vs x) f (at vs y) h in
+    let done = test_halts p m F asks null x f (cell p m (at vs y) h).word (word_of (at vs y)) false (spent_into p m vs x f y) t (ap Ok (sym c.in_default.is) ∙ c.in_ok-pair.ensures.value) in
     record { value = done.0; after = done.1 }
 
 pub returns-in_err-new : goal.returns-in_err-new
@@ -61,20 +56,15 @@ returns-in_err-new g c =
     let h = c.args.g in
     let p = program_of c.args.table.now in
     let m = g.M.Memory.model c.args.memory.now in
-    let there = given vs x && given vs y in
-    let kinds = is_reference (at vs x) && is_reference (at vs y) && refers p m (at vs x) f && refers p m (at vs y) h in
-    let a : (given vs x && given vs y) ≡ true = search rules in
-    let b : (is_reference (at vs x) && is_reference (at vs y) && refers p m (at vs x) f && refers p m (at vs y) h) ≡ true = search rules in
-    let n = c.in_err-new.field-0.0 in
-    let t = c.in-Some.pair in
-    let s = paired_as p m c.at-a.result (at vs x) f c.at-b.result (at vs y) h (Ok (Some t)) (ap Ok (sym c.in-Some.is) ∙ c.in_ok-pair.ensures.value) c.at-a.ensures c.at-b.ensures in
-    let q = pair_goes p m there kinds (at vs x) f (at vs y) h (Some t) a b s in
-    let two = pair_there p m (at vs x) f (at vs y) h q.first_target q.second_target t q.first_is q.second_is q.both_are in
-    let on = none_null (at vs x) (at vs y) t.from.object t.to.object two.0.named two.1.named in
-    let k = second_word_fails n (cell p m (at vs y) h).word (word_of (at vs y)) c.at-b.result (at vs y) c.in_err-new.ensures c.at-b.ensures refl in
-    let done = exchange_51 p m F (fields_ask p m vs x f y h) (is_null (at vs x) || is_null (at vs y)) x f (cell p m (at vs y) h).word (word_of (at vs y)) n false (spent_into p m vs x f y) q.holds on k.0 k.1 in
+    let asks = fields_ask p m vs x f y h in
+    let null = is_null (at vs x) || is_null (at vs y) in
+    let t = pair_at p m (at vs x) f (at vs y) h in
+    let s = c.in-Some.pair in
+    let there = ap Ok (sym c.in-Some.is) ∙ c.in_ok-pair.ensures.value in
+    let no = second_word_fails (number_of c.in_err-new.field-0.0) (cell p m (at vs y) h).word (word_of (at vs y)) c.at-b.result (at vs y) c.in_err-new.ensures c.at-b.ensures refl in
+    let done = test_51 p m F asks null x f (cell p m (at vs y) h).word (word_of (at vs y)) false (spent_into p m vs x f y) t s there no.0 in
     let d = err_from_is_err_and c.from_residual-in_err-new.result c.from_residual-in_err-new.ensures.1 in
-    record { value = d.1 ∙ ap Err d.2 ∙ done.0; after = done.1 }
+    record { value = ap numbered (d.1 ∙ ap Err d.2) ∙ ap Err no.1 ∙ done.0; after = done.1 }
 
 pub returns : goal.returns
 returns g c =
@@ -86,17 +76,12 @@ returns g c =
     let h = c.args.g in
     let p = program_of c.args.table.now in
     let m = g.M.Memory.model c.args.memory.now in
-    let there = given vs x && given vs y in
-    let kinds = is_reference (at vs x) && is_reference (at vs y) && refers p m (at vs x) f && refers p m (at vs y) h in
-    let a : (given vs x && given vs y) ≡ true = search rules in
-    let b : (is_reference (at vs x) && is_reference (at vs y) && refers p m (at vs x) f && refers p m (at vs y) h) ≡ true = search rules in
-    let t = c.in-Some.pair in
-    let s = paired_as p m c.at-a.result (at vs x) f c.at-b.result (at vs y) h (Ok (Some t)) (ap Ok (sym c.in-Some.is) ∙ c.in_ok-pair.ensures.value) c.at-a.ensures c.at-b.ensures in
-    let q = pair_goes p m there kinds (at vs x) f (at vs y) h (Some t) a b s in
-    let two = pair_there p m (at vs x) f (at vs y) h q.first_target q.second_target t q.first_is q.second_is q.both_are in
-    let on = none_null (at vs x) (at vs y) t.from.object t.to.object two.0.named two.1.named in
-    let word = word_of_slot c.in_ok-new.new c.at-b.result (at vs y) c.in_ok-new.ensures c.at-b.ensures in
-    let seen = word_read p m (at vs y) h t.to two.1 in
-    let done = exchange_settles p m (g.M.Memory.model c.settle.new.memory) F c.with-spent.result (fields_ask p m vs x f y h) (is_null (at vs x) || is_null (at vs y)) x f t.to.cell.word (cell p m (at vs y) h).word c.in_ok-new.new (word_of (at vs y)) false (spent_into p m vs x f y) t.from.object c.settle.result
-    q.holds on two.0.named (left_of_slot p m F c.with-spent.result x f y c.at-b.result c.left.result t.from two.0 c.left.ensures c.at-b.ensures c.with-spent.ensures) seen word c.settle.ensures.value c.settle.ensures.after in
+    let asks = fields_ask p m vs x f y h in
+    let null = is_null (at vs x) || is_null (at vs y) in
+    let t = pair_at p m (at vs x) f (at vs y) h in
+    let s = c.in-Some.pair in
+    let there = ap Ok (sym c.in-Some.is) ∙ c.in_ok-pair.ensures.value in
+    let is = (found asks null t s there).2 in
+    let done = test_exchanges p m F asks null x f (cell p m (at vs y) h).word (word_of (at vs y)) false (spent_into p m vs x f y) t s there c.with-spent.result s.from.object s.to.cell.word c.in_ok-new.new (numbered c.settle.result) (g.M.Memory.model c.settle.new.memory)
+    (c.with-spent.ensures ∙ ap (λ (z : Slot). record { function = F.function; index = F.index; slots = set vs y z }) (c.left.ensures ∙ ap (λ z. left s.from.field.ty z) c.at-b.ensures ∙ ap (λ (z : Pair). left z.from.field.ty (at vs y)) is)) (ap (λ (z : Pair). z.from.object) is) (ap (λ (z : Pair). z.to.cell.word) is) (word_of_slot c.in_ok-new.new c.at-b.result (at vs y) c.in_ok-new.ensures c.at-b.ensures) c.settle.ensures.value c.settle.ensures.after in
     record { value = done.0; after = done.1 }

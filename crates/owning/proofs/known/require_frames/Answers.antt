@@ -15,7 +15,7 @@ returns-in_err-require c =
     let i = c.loop-i.i in
     let size : length (map task_of ts) ≡ length ts = length-map ts task_of in
     let there : i < length (map task_of ts) = omega arith in
-    let asked = c.in_err-require.ensures ∙ ap (required c.all_in_table.result) c.at.ensures ∙ ap (λ b. demanded b 69 (Thread i)) c.all_in_table.ensures ∙ known_by p ts i c.in_use.result.now c.loop-i-test.true c.in_use.ensures.value in
+    let asked = c.in_err-require.ensures ∙ ap (required c.all_in_table.result) c.at.ensures ∙ ap (λ b. demanded b 69 (Thread i)) c.all_in_table.ensures ∙ known_by p ts i c.all.result.now c.loop-i-test.true c.all.ensures.value in
     λ m. each_refused (length (map task_of ts)) (known_at p ts) i c.in_err-require.field-0.0 c.from_residual.result there c.loop-i.invariant asked c.from_residual.ensures.1
 
 pub loop-i-preserved : goal.loop-i-preserved
@@ -24,7 +24,7 @@ loop-i-preserved c =
     let ts = c.args.threads.now in
     let i = c.loop-i.i in
     each_next (known_at p ts) i c.in_ok-require.field-0 c.loop-i.invariant
-    (c.in_ok-require.ensures ∙ ap (required c.all_in_table.result) c.at.ensures ∙ ap (λ b. demanded b 69 (Thread i)) c.all_in_table.ensures ∙ known_by p ts i c.in_use.result.now c.loop-i-test.true c.in_use.ensures.value)
+    (c.in_ok-require.ensures ∙ ap (required c.all_in_table.result) c.at.ensures ∙ ap (λ b. demanded b 69 (Thread i)) c.all_in_table.ensures ∙ known_by p ts i c.all.result.now c.loop-i-test.true c.all.ensures.value)
 
 pub returns : goal.returns
 returns c =

@@ -14,10 +14,10 @@ loop-number-preserved g c = λ plain.
     let ns = c.args.numbers.now in
     let i = c.loop-number.number-index in
     let before = c.loop-number.invariant plain in
-    let here : WritesOnOk g.W.Write.write_str_gives c.loop-number.f c.write.result (decimal (get_or c.args.numbers.now c.loop-number.number-index 0) ++ codes "\n") c.write.new.self = search rules in
-    let now = here before.plain (ap is_ok c.in_ok-write.was) in
-    has_written_of_eq g.W.Write.write_str_gives c.args.f.now _ _ c.write.new.self (lines_more ns i c.loop-number-test.true)
-    (has_written_append g.W.Write.write_str_gives c.args.f.now (lines (take i ns)) c.loop-number.f (decimal (get_or ns i 0) ++ codes "\n") c.write.new.self before now)
+    let here : WritesOnOk g.W.Write.write_str_gives c.loop-number.f c.writeln.result (decimal (get_or c.args.numbers.now c.loop-number.number-index 0) ++ codes "\n") c.writeln.new.self = search rules in
+    let now = here before.plain (ap is_ok c.in_ok-writeln.was) in
+    has_written_of_eq g.W.Write.write_str_gives c.args.f.now _ _ c.writeln.new.self (lines_more ns i c.loop-number-test.true)
+    (has_written_append g.W.Write.write_str_gives c.args.f.now (lines (take i ns)) c.loop-number.f (decimal (get_or ns i 0) ++ codes "\n") c.writeln.new.self before now)
 
 pub returns : goal.returns
 returns g c = λ plain e. has_written_of_eq g.W.Write.write_str_gives c.args.f.now _ _ c.loop-number.f (ap lines (take_all c.loop-number.number-index c.args.numbers.now c.loop-number-test.false)) (c.loop-number.invariant plain)

@@ -7,10 +7,11 @@ use Rattle.stepping.proofs.Arguments.{filled}
 use Rattle.stepping.proofs.calls.pass.Given as goal
 
 abbrev pub invariant-loop-i : goal.invariant-loop-i
-invariant-loop-i l =
-    (l.caller.function ≡ l.frame.function)
-    × (l.caller.index ≡ l.frame.index)
-    × (leaving l.caller.slots (drop l.i l.args) (drop l.i (callee (program_of l.table) l.n).params) ≡ leaving l.frame.slots l.args (callee (program_of l.table) l.n).params)
-    × (l.callee.function ≡ l.n)
-    × (l.callee.index ≡ 0)
-    × (filled l.callee.slots l.i l.frame.slots (drop l.i l.args) (drop l.i (callee (program_of l.table) l.n).params) ≡ filled (replicate 16 Empty) 0 l.frame.slots l.args (callee (program_of l.table) l.n).params)
+invariant-loop-i l = record {
+  caller_function : l.caller.function ≡ l.frame.function;
+  caller_index : l.caller.index ≡ l.frame.index;
+  leaves : leaving l.caller.slots (drop l.i l.operands) (drop l.i (callee (program_of l.table) l.n).params) ≡ leaving l.frame.slots l.operands (callee (program_of l.table) l.n).params;
+  callee_function : l.callee.function ≡ l.n;
+  callee_index : l.callee.index ≡ 0;
+  fills : filled l.callee.slots l.i l.frame.slots (drop l.i l.operands) (drop l.i (callee (program_of l.table) l.n).params) ≡ filled (replicate 16 Empty) 0 l.frame.slots l.operands (callee (program_of l.table) l.n).params;
+}

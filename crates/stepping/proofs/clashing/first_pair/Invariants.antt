@@ -1,9 +1,10 @@
-use Rattle.std.proofs.Common.{◌≡◌}
+use Rattle.std.proofs.Common.{◌≡◌, map, drop}
 use Rattle.table.specs.Reading.{program_of}
-use Rattle.stepping.proofs.Touching.{pairs_left}
+use Rattle.machine.specs.World.{task_of}
+use Rattle.machine.specs.Clashes.{clash_from}
 use Rattle.stepping.proofs.clashing.first_pair.Given as goal
 
 abbrev pub invariant-loop-lower : goal.invariant-loop-lower
 invariant-loop-lower g l =
-    pairs_left (program_of l.table) (g.M.Memory.model l.memory) l.threads l.lower
-    ≡ pairs_left (program_of l.table) (g.M.Memory.model l.memory) l.threads 0
+    clash_from (program_of l.table) (g.M.Memory.model l.memory) l.lower (map task_of (drop l.lower l.threads))
+    ≡ clash_from (program_of l.table) (g.M.Memory.model l.memory) 0 (map task_of l.threads)
