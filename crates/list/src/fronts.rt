@@ -43,7 +43,9 @@ impl<T: Copy, const N: usize> Front<T, N> {
         ensures { front_of self.new ≡ pushed N (front_of self.old) x }
     {
         let len = self.len();
-        self.len = append(&mut self.items, len, x);
+        if len < N {
+            self.len = append(&mut self.items, len, x);
+        }
     }
 
     // Takes the last item off, if there is one.

@@ -102,8 +102,15 @@ pub fn resolve<M: Memory>(
 pub fn see<M: Memory>(table: &Table, memory: &M, value: Slot, f: u8) -> Option<Field>
     ensures value { result ≡ seen (program_of table.now) (M.Memory.model memory.now) value f }
 {
-    let target = resolve(table, memory, value, f).ok().flatten();
-    target.map(|target| target.field)
+    let Slot::Reference(object) = value else {
+        return None;
+    };
+    // Not by `resolve`, which loads the cell too.
+    if has_object(memory, object) && has_field(table, memory, object, f) {
+        Some(field_at(table, memory, object, f))
+    } else {
+        None
+    }
 }
 
 // Whether the field is a reference, where that can be judged.

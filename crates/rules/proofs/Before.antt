@@ -1,7 +1,6 @@
 -- The records before a record are read in turn, and what is answered then.
-use Rattle.std.proofs.Common.{◌≡◌, ℕ, zero, suc, ◌+◌, ◌<◌, ◌≤◌, ltb, List, [], ◌∷◌, ◌++◌, length, get_or, take, drop, None, Ok, Err, Option, Result, sym, refl, ap, ◌∙◌, subst, inl, inr, add-one, arith}
+use Rattle.std.proofs.Common.{◌≡◌, ℕ, zero, suc, ◌+◌, ◌<◌, ◌≤◌, ltb, List, [], ◌∷◌, ◌++◌, length, get_or, take, drop, None, Ok, Err, Option, sym, refl, ap, ◌∙◌, inl, inr, add-one, arith}
 use mathlib.Core.Path.{subst⁻¹}
-use Rattle.std.specs.Result.{result_ok}
 use Rattle.std.proofs.lemmas.List.{length-take-le, get_or-take, drop_more, at_drop_all}
 use Rattle.std.proofs.lemmas.Bool.{cond-true, cond-false, lt-ltb, le-ltb}
 use Rattle.table.specs.declared.fault.Fault.{Fault}
@@ -21,8 +20,7 @@ use Rattle.rules.proofs.Laws.{accepted_read}
 use Rattle.rules.proofs.Blocks.{stepped_at}
 use Rattle.rules.proofs.Judging.{then_err, then_taken}
 use Rattle.rules.specs.Stacks.{blocks_of, state_of, Deep, Behind}
-use Rattle.rules.specs.Before.{read_before, counted, scoped, Fronts}
-use Rattle.rules.specs.Walk.{Gives}
+use Rattle.rules.specs.Before.{read_before, counted, scoped}
 
 -- record i of a body is reached on the way to record j: these types and open blocks stand for the state before it, and what is left to read
 -- decides
@@ -161,7 +159,3 @@ scoped_large room n i p h = sym (cond-false (ltb room 128) (Err (fault 30 Nothin
 
 pub scoped_accepted : (room n i : ℕ) (p : Program) → 128 ≤ room → verdict p ≡ Ok tt → i < length (callee p n).records → scoped room p n i ≡ Ok (length (before p (callee p n) i).types)
 scoped_accepted room n i p h v l = sym (scoped_large room n i p h) ∙ counted_accepted n i p v l
-
--- the types that are answered
-pub gives : (ts xs : List Ty) (r : Result ℕ Fault) → r ≡ Ok (length ts) → Fronts ts xs r → Gives ts xs (result_ok r)
-gives ts xs r e f = record { count = ap result_ok e; types = subst (Fronts ts xs) e f }

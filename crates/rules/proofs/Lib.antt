@@ -14,4 +14,5 @@ pub mod Blocking
 pub mod Checked
 pub mod InScope
 pub mod Before
+pub mod Walk
 pub mod Stacks

